@@ -1,0 +1,7 @@
+-- Laws on plain values that the functions' proofs, and crates above, cite; and the proof of specs/Rounding's statement.
+pub mod Cases
+pub mod Truncation
+pub mod Sign
+pub mod InDomain
+pub mod Rounding
+pub mod Samples
