@@ -23,6 +23,10 @@ pub and-true-left : (a b : Bool) → a && b ≡ true → a ≡ true
 and-true-left true b e = refl
 and-true-left false b e = e
 
+pub and-true-right : (a b : Bool) → a && b ≡ true → b ≡ true
+and-true-right true b e = e
+and-true-right false b e = false-not-true e
+
 pub lt-or-le : (a b : ℕ) → (a < b) ⊎ (b ≤ a)
 lt-or-le a b = go (ltb a b) (ltb→lt a b) (nltb→le a b)
   where

@@ -1,0 +1,8 @@
+-- The starred samples hold, by computation.
+use mathlib.Core.Path.{refl}
+use Rattle.walk.specs.Line.{startsSecond, fromStart, offsetAfter, dotAfter, lineDots}
+use Rattle.samples.specs.Starred.{AllHold, starred}
+
+pub starred-hold : AllHold starred
+unfolding startsSecond fromStart offsetAfter dotAfter lineDots
+starred-hold = (refl, (refl, tt))

@@ -1,0 +1,2 @@
+-- The starred bench samples of document 01.
+pub mod Starred
