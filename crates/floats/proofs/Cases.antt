@@ -15,6 +15,10 @@ pub or-false-left : (a b : Bool) → a || b ≡ false → a ≡ false
 or-false-left true b e = e
 or-false-left false b e = refl
 
+pub or-false-right : (a b : Bool) → a || b ≡ false → b ≡ false
+or-false-right true b e = true-not-false e
+or-false-right false b e = e
+
 pub or-true-left : (a b : Bool) → a ≡ true → a || b ≡ true
 or-true-left true b e = refl
 or-true-left false b e = false-not-true e
