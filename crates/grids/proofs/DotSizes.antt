@@ -16,10 +16,10 @@ unfolding dotSize
 single-dot marker a b c d = simp (ne-eqb _ _ a, ne-eqb _ _ b, ne-eqb _ _ c, ne-eqb _ _ d)
 
 -- at most 2 across and 4 down
-abbrev Small : Size → Type 0
+abbrev pub Small : Size → Type 0
 Small s = (s .columns ≤ 2) × (s .rows ≤ 4)
 
-dot-size-le : (marker : ℕ) → Small (dotSize marker)
+pub dot-size-le : (marker : ℕ) → Small (dotSize marker)
 unfolding dotSize
 dot-size-le marker =
     either Small (eqb marker 1) (omega arith, omega arith) (either Small (eqb marker 5) (omega arith, omega arith)

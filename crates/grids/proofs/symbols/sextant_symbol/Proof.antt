@@ -1,15 +1,25 @@
 -- The same tests; above 21 and 42 the definition takes its ones off.
-use Prim.Native.Nat.{ℕ, _<_, _-_, _%_}
+use Prim.Native.Nat.{ℕ, _+_, _<_, _-_, _%_}
 use mathlib.Core.Path.{_≡_}
 use native.Mathlib.Omega.{arith}
 use borrow.Author.Tests.{le-ltb, lt-ltb, ne-eqb}
 use borrow.Author.Needs.{needs}
-use Rattle.grids.specs.Symbols.{sextantSymbol}
+use Rattle.grids.specs.Symbols.{sextant, sextantSymbol}
 use Rattle.grids.proofs.symbols.sextant_symbol.Statement.{statement}
 use Rattle.grids.proofs.symbols.sextant_symbol.Tie as tie
 
-one-by-one : (n : ℕ) → n - 3 ≡ n - 1 - 1 - 1
-one-by-one n = omega arith
+-- the definition in its three stretches
+above-42 : (p : ℕ) → 42 < p → (p ≡ 63 → ⊥) → 0x1FB00 + p - 3 ≡ sextant p
+above-42 p h n =
+    simp (ne-eqb p 21 (λ e. omega arith), ne-eqb p 42 (λ e. omega arith), ne-eqb p 63 n, lt-ltb 21 p (omega arith), lt-ltb 42 p h) (omega arith)
+
+between : (p : ℕ) → 21 < p → p < 42 → 0x1FB00 + p - 2 ≡ sextant p
+between p h g =
+    simp (ne-eqb p 21 (λ e. omega arith), ne-eqb p 42 (λ e. omega arith), ne-eqb p 63 (λ e. omega arith), lt-ltb 21 p h, le-ltb 42 p (omega arith)) (omega arith)
+
+below-21 : (p : ℕ) → p < 21 → 0x1FAFF + p ≡ sextant p
+below-21 p h =
+    simp (ne-eqb p 21 (λ e. omega arith), ne-eqb p 42 (λ e. omega arith), ne-eqb p 63 (λ e. omega arith), le-ltb 21 p (omega arith), le-ltb 42 p (omega arith)) (omega arith)
 
 returns : tie.Need-returns
 unfolding sextantSymbol
@@ -31,16 +41,7 @@ sub-result c = search needs
 
 returns-4 : tie.Need-returns-4
 unfolding sextantSymbol
-returns-4 c =
-    let h : 21 < c .before .before .before .before .args .pattern % 64 = omega arith in
-    simp (
-      lt-ltb _ _ h,
-      lt-ltb _ _ (c .if4 .taken),
-      ne-eqb _ _ (c .before .if3 .left),
-      ne-eqb _ _ (c .before .before .if2 .left),
-      ne-eqb _ _ (c .before .before .before .if1 .left),
-    )
-    (one-by-one _)
+returns-4 c = above-42 (c .before .before .before .before .args .pattern % 64) (omega arith) (c .before .if3 .left)
 
 add-result-2 : tie.Need-add-result-2
 add-result-2 c = search needs
@@ -50,30 +51,14 @@ sub-result-2 c = search needs
 
 returns-5 : tie.Need-returns-5
 unfolding sextantSymbol
-returns-5 c =
-    simp (
-      lt-ltb _ _ (c .if5 .taken),
-      le-ltb _ _ (c .before .if4 .left),
-      ne-eqb _ _ (c .before .before .if3 .left),
-      ne-eqb _ _ (c .before .before .before .if2 .left),
-      ne-eqb _ _ (c .before .before .before .before .if1 .left),
-    )
-    (omega arith)
+returns-5 c = between (c .before .before .before .before .before .args .pattern % 64) (omega arith) (omega arith)
 
 add-result-3 : tie.Need-add-result-3
 add-result-3 c = search needs
 
 returns-6 : tie.Need-returns-6
 unfolding sextantSymbol
-returns-6 c =
-    simp (
-      le-ltb _ _ (c .if5 .left),
-      le-ltb _ _ (c .before .if4 .left),
-      ne-eqb _ _ (c .before .before .if3 .left),
-      ne-eqb _ _ (c .before .before .before .if2 .left),
-      ne-eqb _ _ (c .before .before .before .before .if1 .left),
-    )
-    (omega arith)
+returns-6 c = below-21 (c .before .before .before .before .before .args .pattern % 64) (omega arith)
 
 pub sextant-symbol-spec : {M : Type 1} → statement M
 sextant-symbol-spec =

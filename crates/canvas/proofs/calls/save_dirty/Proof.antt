@@ -1,0 +1,20 @@
+-- A dirty grid is saved; a clean one is left.
+use mathlib.Core.Path.{_∙_}
+use borrow.Author.Needs.{needs}
+use Rattle.canvas.proofs.calls.save_dirty.Statement.{statement}
+use Rattle.canvas.proofs.calls.save_dirty.Tie as tie
+
+save-requires : tie.Need-save-requires
+save-requires c κs = search needs
+
+same-length : tie.Need-same-length
+same-length c = search needs
+
+returns : tie.Need-returns
+returns c = c .before .before .save .ensures ∙ rw (c .before .before .before .before .if1 .taken)
+
+returns-2 : tie.Need-returns-2
+returns-2 c = rw (c .if1 .left)
+
+pub save-dirty-spec : {M : Type 1} → statement M
+save-dirty-spec = tie.close (tie.spec save-requires same-length returns returns-2)

@@ -1,0 +1,6 @@
+-- Laws of a point's dot, of lists of dots painted, of the ways a line is clipped and of the dots' number, which the functions' proofs and crates above cite.
+pub mod DotPlaces
+pub mod PaintLists
+pub mod LineCases
+pub mod DotCounts
+pub mod ClampIdle
