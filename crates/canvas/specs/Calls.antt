@@ -10,7 +10,7 @@ use Rattle.walk.specs.declared.clip.Bounds.{Bounds}
 use Rattle.walk.specs.declared.clip.Segment.{Segment}
 use Rattle.walk.specs.declared.bresenham.Dot.{Dot}
 use Rattle.grids.specs.Markers.{isMarker, isHalfBlock}
-use Rattle.shapes.specs.Limits.{maxColumns, maxRows, maxDraws, maxPairs, maxLabels, maxText, reset, screenWords}
+use Rattle.shapes.specs.Limits.{maxColumns, maxRows, maxDraws, maxPairs, maxLabels, maxText, reset, cellWords, labelWords, screenWords}
 use Rattle.shapes.specs.Shapes.{Pair, pairDots, dotAt}
 use Rattle.shapes.specs.Drawing.{shapeDots}
 use Rattle.shapes.specs.declared.point.View.{View}
@@ -117,7 +117,7 @@ openRefusal o cells labels =
     ∷ (badBounds (o .bounds), 2)
     ∷ (badColour (o .background), 3)
     ∷ (not (isMarker (o .marker) (o .character)), 4)
-    ∷ (ltb cells (o .columns * o .rows * 5) || ltb labels (maxLabels * 44), 5)
+    ∷ (ltb cells (o .columns * o .rows * cellWords) || ltb labels (maxLabels * labelWords), 5)
     ∷ []
     )
 

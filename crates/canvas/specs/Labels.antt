@@ -3,6 +3,7 @@ use Prim.Native.Nat.{ℕ, zero, suc, _+_, _*_, min}
 use mathlib.Core.List.{List, [], _∷_, _++_}
 use lib.ListN.{length, getD}
 use lib.Seq.{sets}
+use Rattle.shapes.specs.Limits.{maxText, labelWords}
 use Rattle.canvas.specs.Screen.{Placed}
 use Rattle.shapes.specs.declared.point.Found.{Found}
 use Rattle.shapes.specs.declared.point.Found.the-variants.{At, Nowhere}
@@ -27,13 +28,13 @@ wordsFrom labels i (suc n) = getD labels i 0 ∷ wordsFrom labels (suc i) n
 -- the label k; 'a stored label length above 40' is read 'as 40'
 unfoldable pub labelAt : List ℕ → ℕ → Placed
 labelAt labels k = record {
-  place = placeOf (getD labels (k * 44) 0) (getD labels (k * 44 + 1) 0);
-  word = getD labels (k * 44 + 2) 0;
-  text = wordsFrom labels (k * 44 + 4) (min 40 (getD labels (k * 44 + 3) 0));
+  place = placeOf (getD labels (k * labelWords) 0) (getD labels (k * labelWords + 1) 0);
+  word = getD labels (k * labelWords + 2) 0;
+  text = wordsFrom labels (k * labelWords + 4) (min maxText (getD labels (k * labelWords + 3) 0));
 }
 
 unfoldable pub putLabel : List ℕ → ℕ → Placed → List ℕ
-putLabel labels k l = sets labels (k * 44) (columnWord (l .place) ∷ rowWord (l .place) ∷ l .word ∷ length (l .text) ∷ l .text)
+putLabel labels k l = sets labels (k * labelWords) (columnWord (l .place) ∷ rowWord (l .place) ∷ l .word ∷ length (l .text) ∷ l .text)
 
 -- the first n labels
 abbrev pub heldLabels : List ℕ → ℕ → List Placed

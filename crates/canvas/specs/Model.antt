@@ -14,7 +14,7 @@ use Rattle.grids.specs.Cells.{cellAt}
 use Rattle.grids.specs.Painting.{paintDots}
 use Rattle.grids.specs.Layer.{saveOf, resetOf, blankOf}
 use Rattle.grids.specs.declared.layer.LayerCell.{LayerCell}
-use Rattle.shapes.specs.Limits.{maxDraws, maxPainted, maxLabels}
+use Rattle.shapes.specs.Limits.{maxDraws, maxPainted, maxLabels, cellWords, labelWords}
 use Rattle.shapes.specs.Point.{labelPlace, viewOf}
 use Rattle.canvas.specs.Screen.{ScreenCell, cellOn, putOn, orElse, layered, Placed}
 use Rattle.canvas.specs.Labels.{putLabel, heldLabels}
@@ -47,7 +47,7 @@ badCanvas c =
     || ((ltb maxDraws (c .draws) || ltb maxLabels (c .labels)) || ltb (maxPainted * c .draws) (c .painted))
 
 unfoldable pub shortStores : Canvas → ℕ → ℕ → Bool
-shortStores c cells labels = ltb cells (cellCount c * 5) || ltb labels (maxLabels * 44)
+shortStores c cells labels = ltb cells (cellCount c * cellWords) || ltb labels (maxLabels * labelWords)
 
 unfoldable pub stateRefusal : Canvas → ℕ → ℕ → ℕ
 stateRefusal c cells labels = first ((badCanvas c || shortStores c cells labels, 5) ∷ (c .rendered, 6) ∷ [])

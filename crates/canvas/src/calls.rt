@@ -220,7 +220,7 @@ fn refused(canvas: Canvas, number: u8) -> Called
 }
 
 // The canvas of a refused opening, which 'state' meets with 5.
-fn zero_canvas() -> Canvas
+pub fn zero_canvas() -> Canvas
     ensures { λ r. ⌜ r ≡ zeroCanvas ⌝ }
 {
     Canvas {

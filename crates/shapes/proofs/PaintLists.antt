@@ -96,7 +96,7 @@ pub circle-over : (v : View) (x y radius : Float) (k : ℕ) → k ≡ 360 → an
 unfolding circlePoints
 circle-over v x y radius k e = ap (angles v x y radius) e
 
-pairs-append : (xs ys : List (List Float)) → pairsOf (xs ++ ys) ≡ pairsOf xs ++ pairsOf ys
+pub pairs-append : (xs ys : List (List Float)) → pairsOf (xs ++ ys) ≡ pairsOf xs ++ pairsOf ys
 pairs-append [] ys = refl
 pairs-append (x ∷ xs) ys = rw (pairs-append xs ys)
 

@@ -1,0 +1,37 @@
+-- What was read lies in the part that was lent, so in the whole buffer.
+use mathlib.Core.Path.{sym}
+use native.Mathlib.Omega.{arith}
+use lib.ListN.{length-append}
+use lib.Seq.{length-take-le}
+use borrow.Author.Needs.{needs}
+use Rattle.cases.proofs.read_part.Statement.{statement}
+use Rattle.cases.proofs.read_part.Tie as tie
+
+held-requires : tie.Need-held-requires
+held-requires c κs = search needs
+
+slice-relend-prefix-read-full : tie.Need-slice-relend-prefix-read-full
+slice-relend-prefix-read-full c = search needs
+
+slice-aggregate-read-full : tie.Need-slice-aggregate-read-full
+slice-aggregate-read-full c = search needs
+
+read-full-requires : tie.Need-read-full-requires
+read-full-requires c κs = search needs
+
+same-length : tie.Need-same-length
+same-length c = search needs
+
+returns : tie.Need-returns
+returns c = (simp length-append (omega arith), sym (length-take-le _ _ (simp length-append (omega arith))))
+
+pub read-part-spec : {M : Type 1} → statement M
+read-part-spec =
+    tie.close
+    (tie.spec
+    held-requires
+    slice-relend-prefix-read-full
+    slice-aggregate-read-full
+    read-full-requires
+    same-length
+    returns)

@@ -1,0 +1,74 @@
+-- The pairs so far are those of the bytes.
+use native.Mathlib.Omega.{arith}
+use mathlib.Core.Path.{_≡_, refl, sym, _∙_}
+use Prim.Native.Nat.{_-_, _≤_}
+use lib.ListN.{length, take, length-set}
+use Rattle.shapes.specs.Drawing.{pairsOf}
+use Rattle.picture.specs.Records.{pairsAt}
+use Rattle.picture.proofs.Pairs.{pairs-next}
+use borrow.Author.Needs.{needs}
+use Rattle.picture.proofs.records.read_pairs.Statement.{statement}
+use Rattle.picture.proofs.records.read_pairs.Tie as tie
+
+abbrev Inv-loop : tie.InvT-loop
+Inv-loop part count pairs₀ i₀ pairs i = (i ≤ count) × (length pairs ≡ length pairs₀) × (pairsOf (take i pairs) ≡ pairsAt part 2 i)
+
+abbrev μ-loop : tie.MeasureT-loop
+μ-loop part count pairs₀ i₀ pairs i = count - i
+
+loop-holds : tie.Need-loop-holds Inv-loop μ-loop
+loop-holds c = (omega arith, refl, refl)
+
+mul-pair-at : tie.Need-mul-pair-at Inv-loop μ-loop
+mul-pair-at c = search needs
+
+add-pair-at : tie.Need-add-pair-at Inv-loop μ-loop
+add-pair-at c = search needs
+
+pair-at-requires : tie.Need-pair-at-requires Inv-loop μ-loop
+pair-at-requires c κs = search needs
+
+mul-t9 : tie.Need-mul-t9 Inv-loop μ-loop
+mul-t9 c = search needs
+
+slice-set-from-pairs : tie.Need-slice-set-from-pairs Inv-loop μ-loop
+slice-set-from-pairs c = search needs
+
+add-i : tie.Need-add-i Inv-loop μ-loop
+add-i c = search needs
+
+loop-less : tie.Need-loop-less Inv-loop μ-loop
+loop-less c = search needs
+
+loop-again : tie.Need-loop-again Inv-loop μ-loop
+loop-again c =
+    let l = c .before .before .loop in
+    let a = c .before .before .before .before .args in
+    (omega (arith, c .before .loop-test .taken), simp length-set (l .inv .1), pairs-next (a .part .now) (l .pairs) (l .i) _ (omega (arith, c .before .loop-test .taken)) (l .inv .2) (c .pair-at .ensures))
+
+same-length : tie.Need-same-length Inv-loop μ-loop
+same-length c = search needs
+
+returns : tie.Need-returns Inv-loop μ-loop
+returns c =
+    let l = c .before .loop in
+    let e : l .i ≡ c .before .before .before .args .count = omega (arith, c .loop-test .left) in
+    (rw (← e) (l .inv .2), l .inv .1)
+
+pub read-pairs-spec : {M : Type 1} → statement M
+read-pairs-spec =
+    tie.close
+    (tie.spec
+    Inv-loop
+    μ-loop
+    loop-holds
+    mul-pair-at
+    add-pair-at
+    pair-at-requires
+    mul-t9
+    slice-set-from-pairs
+    add-i
+    loop-less
+    loop-again
+    same-length
+    returns)
