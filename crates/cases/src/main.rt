@@ -1,19 +1,12 @@
 // Reads a bundle of cases on standard input and prints, for each, `case NAME` and then what `layout`
 // prints for its file. A case is the name's length (1 byte), the name, the file's length (4 bytes,
 // little-endian) and the file. The stored output is made by a model of document 01 (tools/model).
-use picture::fields::number8;
-use picture::fields::number32;
+use bundle::read_length;
+use bundle::read_name_length;
+use bundle::read_part;
+use bundle::skip_rest;
 use report::printing::held;
 use report::printing::list_picture;
-ghost use Rattle.io.specs.Counts.{Counts};
-
-// At most so many bytes of the input, at the start of a buffer. Answers how many there were.
-fn read_part(buffer: &mut [u8], most: usize) -> usize
-    ensures { λ r. ⌜ Counts r (now (buffer .exit)) ⌝ }
-{
-    let n = held(most, &*buffer);
-    io::read_full(0, &mut buffer[..n])
-}
 
 // What `layout` prints. Answers whether it was written.
 fn print_listing(file: &[u8]) -> bool {
@@ -28,27 +21,15 @@ fn print_listing(file: &[u8]) -> bool {
 
 // The line of a case's name. Answers false at the end of the bundle.
 fn print_name() -> bool {
-    let mut head = [0u8; 1];
-    if io::read_full(0, &mut head) == 0 {
+    let length = read_name_length();
+    if length > 255 {
         return false;
     }
-    let length = number8(&head, 0) as usize;
     let mut name = [0u8; 255];
     let n = read_part(&mut name, length);
     io::write_all(1, b"case ");
     io::write_all(1, &name[..n]);
     io::write_all(1, b"\n")
-}
-
-fn read_length() -> usize {
-    let mut bytes = [0u8; 4];
-    io::read_full(0, &mut bytes);
-    number32(&bytes, 0) as usize
-}
-
-fn skip(length: usize) {
-    let mut rest = [0u8; 65536];
-    read_part(&mut rest, length);
 }
 
 // The listing of a case's file. A file that fills the buffer is refused with 17 whatever follows, so
@@ -57,9 +38,7 @@ fn print_file() -> bool {
     let length = read_length();
     let mut buffer = [0u8; 65537];
     let n = read_part(&mut buffer, length);
-    if length > 65537 {
-        skip(length - 65537);
-    }
+    skip_rest(length, 65537);
     print_listing(&buffer[..n])
 }
 

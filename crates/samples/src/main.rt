@@ -1,5 +1,6 @@
 // Document 01's bench samples: the starred ones are a statement in specs/ and proved; the others are
-// run here, and what is printed is held to the file stdout.
+// run here, with the refusals that no picture file reaches, and what is printed is held to the file
+// stdout.
 use canvas::calls::Pointed;
 use canvas::calls::dot;
 use canvas::calls::draw;
@@ -7,9 +8,12 @@ use canvas::calls::get_point;
 use canvas::calls::open;
 use canvas::calls::print;
 use canvas::calls::render;
+use canvas::calls::zero_canvas;
 use canvas::labels::Choice;
 use canvas::screen::Area;
 use canvas::state::Answer;
+use canvas::state::Called;
+use canvas::state::Canvas;
 use shapes::painters::Shape;
 use walk::clip::Bounds;
 use walk::clip::Segment;
@@ -219,10 +223,92 @@ fn limits() {
     show_answer(longer_answer);
 }
 
+fn show_called(called: Called) {
+    let answer = called.answer;
+    show_answer(answer);
+}
+
+// '5 if the canvas holds a size ... outside the domain, or a store is too short': the canvas of a refused
+// opening, and a store that is one word short.
+fn refused_with_5() {
+    io::write_all(1, b"A canvas of 0 by 0, and a store that is too short\n");
+    let mut cells = [0u32; 5];
+    let labels = [0u32; 2816];
+    let zero = zero_canvas();
+    let on_zero = dot(zero, &mut cells, &labels, 0, 0, 255);
+    show_called(on_zero);
+    let mut few = [0u32; 4];
+    let opened = open(1, 1, bounds(1.0), 2, 0, 0, &mut cells, &labels);
+    let on_few = dot(opened.canvas, &mut few, &labels, 0, 0, 255);
+    show_called(on_few);
+}
+
+// '12 the area passes an edge; 13 not columns × rows cells', then an area inside a larger screen; and
+// '6 if it was rendered'.
+fn rendered_once() {
+    io::write_all(1, b"12, 13, an area inside the screen, and 6\n");
+    let mut cells = [0u32; 5];
+    let labels = [0u32; 2816];
+    let mut screen = [9u32; 18];
+    let opened = open(1, 1, bounds(1.0), 2, 0, 7, &mut cells, &labels);
+    let dotted = dot(opened.canvas, &mut cells, &labels, 0, 0, 255);
+    let outside = Area {
+        columns: 3,
+        rows: 2,
+        x: 3,
+        y: 0,
+    };
+    let past = render(dotted.canvas, &mut cells, &labels, outside, &mut screen);
+    show_called(past);
+    let area = Area {
+        columns: 3,
+        rows: 2,
+        x: 2,
+        y: 1,
+    };
+    let mut short = [9u32; 17];
+    let cut = render(dotted.canvas, &mut cells, &labels, area, &mut short);
+    show_called(cut);
+    let rendered = render(dotted.canvas, &mut cells, &labels, area, &mut screen);
+    show_called(rendered);
+    show_screen(&screen);
+    let late = dot(rendered.canvas, &mut cells, &labels, 0, 0, 255);
+    show_called(late);
+}
+
+// So many dots drawn; the canvas after them, and the last answer.
+fn dots(canvas: Canvas, cells: &mut [u32], labels: &[u32], count: u32) -> Called {
+    let mut called = Called {
+        canvas,
+        answer: Answer::Done,
+    };
+    let mut left = count;
+    while left > 0 {
+        called = dot(called.canvas, &mut *cells, labels, 0, 0, 255);
+        left -= 1;
+    }
+    called
+}
+
+// '7 if 65,535 draws and dots were accepted, never sooner'
+fn draws_full() {
+    io::write_all(1, b"The last of 65,535 dots, and one more\n");
+    let mut cells = [0u32; 5];
+    let labels = [0u32; 2816];
+    let opened = open(1, 1, bounds(1.0), 2, 0, 0, &mut cells, &labels);
+    let full = dots(opened.canvas, &mut cells, &labels, 65535);
+    show_called(full);
+    let one_more = dot(full.canvas, &mut cells, &labels, 0, 0, 255);
+    show_called(one_more);
+}
+
 fn main() {
     dot_past_row_end(2);
     dot_past_row_end(5);
     label_truncated();
     all_bounds_zero();
     limits();
+    refused_with_5();
+    rendered_once();
+    draws_full();
 }

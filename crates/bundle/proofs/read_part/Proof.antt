@@ -4,8 +4,8 @@ use native.Mathlib.Omega.{arith}
 use lib.ListN.{length-append}
 use lib.Seq.{length-take-le}
 use borrow.Author.Needs.{needs}
-use Rattle.cases.proofs.read_part.Statement.{statement}
-use Rattle.cases.proofs.read_part.Tie as tie
+use Rattle.bundle.proofs.read_part.Statement.{statement}
+use Rattle.bundle.proofs.read_part.Tie as tie
 
 held-requires : tie.Need-held-requires
 held-requires c κs = search needs
