@@ -16,7 +16,6 @@ use crate::state::Canvas;
 use crate::state::is_bad_bounds;
 use crate::state::is_bad_canvas;
 use crate::state::is_bad_colour;
-use crate::state::is_bad_pairs;
 use crate::state::is_bad_point;
 use crate::state::is_bad_shape;
 use crate::state::is_bad_size;
@@ -31,7 +30,6 @@ use grids::painting::cell_count;
 use grids::painting::paint;
 use shapes::painters::Painter;
 use shapes::painters::Shape;
-use shapes::painters::paint_pairs;
 use shapes::painters::paint_shape;
 use shapes::point::Found;
 use shapes::point::label_place;
@@ -40,11 +38,12 @@ use shapes::point::view_of;
 use walk::clip::Bounds;
 ghost use mathlib.Core.Path.{_≡_};
 ghost use mathlib.Core.Bool.{cond};
+ghost use mathlib.Core.List.{List};
 ghost use Prim.Native.Nat.{_+_, _≤_, _<_, _^_};
 ghost use lib.ListN.{length};
-ghost use Rattle.shapes.specs.Drawing.{pairsOf};
 ghost use Rattle.shapes.specs.Limits.{maxColumns, maxRows, maxDraws, reset};
-ghost use Rattle.canvas.specs.Calls.{openRefusal, draw, points, dot, layer, marker, print, render};
+ghost use Rattle.shapes.specs.declared.painters.Pair.{Pair};
+ghost use Rattle.canvas.specs.Calls.{badPairs, openRefusal, draw, points, dot, layer, marker, print, render};
 ghost use Rattle.canvas.specs.Model.{zeroCanvas, openCells, drawnCanvas, laidCells, renderedCells, stateAfter};
 ghost use Rattle.canvas.specs.Contracts.{given, refusalBy, calledOn, screenOn, openCalled, painterOf};
 ghost use Rattle.canvas.specs.PointCall.{pointedOn};
@@ -108,14 +107,22 @@ fn draw_refusal(c: Canvas, cells: usize, labels: usize, shape: Shape, colour: u3
     0
 }
 
-fn points_refusal(c: Canvas, cells: usize, labels: usize, pairs: &[[f64; 2]], colour: u32) -> u8
-    ensures { λ r. ⌜ r ≡ refusalBy c cells labels (points (pairsOf (now (pairs .entry))) colour) ⌝ }
+// Of Points: of its list of pairs the length and whether one of them is bad are enough.
+pub fn points_refusal(
+    c: Canvas,
+    cells: usize,
+    labels: usize,
+    bad: bool,
+    count: usize,
+    colour: u32,
+) -> u8
+    ensures { λ r. ⌜ ((pairs : List Pair) → bad ≡ badPairs pairs → count ≡ length pairs → r ≡ refusalBy c cells labels (points pairs colour)) ⌝ }
 {
     let s = state(c, cells, labels);
     if s != 0 {
         return s;
     }
-    if is_bad_pairs(pairs) {
+    if bad {
         return 2;
     }
     if is_bad_colour(colour) {
@@ -124,7 +131,7 @@ fn points_refusal(c: Canvas, cells: usize, labels: usize, pairs: &[[f64; 2]], co
     if is_full(c.draws) {
         return 7;
     }
-    if pairs.len() > 1000 {
+    if count > 1000 {
         return 8;
     }
     0
@@ -210,7 +217,7 @@ fn render_refusal(c: Canvas, cells: usize, labels: usize, area: Area, screen: &[
 
 // ---- answers
 
-fn refused(canvas: Canvas, number: u8) -> Called
+pub fn refused(canvas: Canvas, number: u8) -> Called
     ensures { λ r. ⌜ r ≡ record { canvas = canvas; answer = Answer.Refused number } ⌝ }
 {
     Called {
@@ -244,7 +251,7 @@ pub fn zero_canvas() -> Canvas
 }
 
 // Where a draw in this colour paints.
-fn painter_for(c: Canvas, colour: u32) -> Painter
+pub fn painter_for(c: Canvas, colour: u32) -> Painter
     ensures { λ r. ⌜ (c .columns ≤ maxColumns → c .rows ≤ maxRows → colour ≤ reset → r ≡ painterOf c colour) ⌝ }
 {
     let v = view_of(c.bounds, c.columns, c.rows, c.marker);
@@ -259,7 +266,7 @@ fn painter_for(c: Canvas, colour: u32) -> Painter
 }
 
 // The canvas after a draw or dot of n dots.
-fn drawn(c: Canvas, n: u64) -> Called
+pub fn drawn(c: Canvas, n: u64) -> Called
     ensures { λ r. ⌜ (c .draws < maxDraws → c .painted + n < 2 ^ 64 → r ≡ record { canvas = drawnCanvas c n; answer = Answer.Painted n }) ⌝ }
 {
     let draws = std::num::wrapping_add_u32(c.draws, 1);
@@ -354,26 +361,6 @@ pub fn draw(canvas: Canvas, cells: &mut [u32], labels: &[u32], shape: Shape, col
     }
     let p = painter_for(canvas, colour);
     let painted = paint_shape(&mut *cells, p, shape);
-    drawn(canvas, painted)
-}
-
-// Points drawn in a colour: a lent list of coordinate pairs.
-pub fn points(
-    canvas: Canvas,
-    cells: &mut [u32],
-    labels: &[u32],
-    pairs: &[[f64; 2]],
-    colour: u32,
-) -> Called
-    ensures { λ r. ⌜ (r ≡ calledOn (given canvas (now (cells .entry)) (now (labels .entry))) (points (pairsOf (now (pairs .entry))) colour))
-        × (now (cells .exit) ≡ stateAfter (given canvas (now (cells .entry)) (now (labels .entry))) (points (pairsOf (now (pairs .entry))) colour) .cells) ⌝ }
-{
-    let n = points_refusal(canvas, cells.len(), labels.len(), pairs, colour);
-    if n != 0 {
-        return refused(canvas, n);
-    }
-    let p = painter_for(canvas, colour);
-    let painted = paint_pairs(&mut *cells, p, pairs);
     drawn(canvas, painted)
 }
 

@@ -8,9 +8,8 @@ use walk::clip::Segment;
 ghost use mathlib.Core.Path.{_≡_};
 ghost use lib.Dec.{leb};
 ghost use Rattle.shapes.specs.Limits.{maxDraws};
-ghost use Rattle.canvas.specs.Calls.{badSize, badBounds, badColour, badSegment, badShape, badPoint, badPairs, outsideGrid};
+ghost use Rattle.canvas.specs.Calls.{badSize, badBounds, badColour, badSegment, badShape, badPoint, outsideGrid};
 ghost use Rattle.canvas.specs.Model.{badCanvas, shortStores, stateRefusal};
-ghost use Rattle.shapes.specs.Drawing.{pairsOf};
 
 // A canvas: the opening's size, bounds and background; the marker and character of the grid being
 // drawn; whether that grid is dirty, and whether the canvas was rendered; labels held, draws and
@@ -90,20 +89,6 @@ pub fn is_bad_shape(shape: Shape) -> bool
         }
         Shape::Circle(x, y, radius) => !((in_domain(x) & in_domain(y)) & in_domain(radius)),
     }
-}
-
-// A pair with a number outside the domain.
-pub fn is_bad_pairs(pairs: &[[f64; 2]]) -> bool
-    ensures { λ r. ⌜ r ≡ badPairs (pairsOf (now (pairs .entry))) ⌝ }
-{
-    let mut i: usize = 0;
-    while i < pairs.len() {
-        if is_bad_point(pairs[i][0], pairs[i][1]) {
-            return true;
-        }
-        i += 1;
-    }
-    false
 }
 
 // A dot outside a HalfBlock grid.

@@ -3,6 +3,7 @@ pub mod Bits
 pub mod Numbers
 pub mod Forms
 pub mod Pairs
+pub mod LentPrefix
 pub mod ByKind
 pub mod Steps
 pub mod Openings

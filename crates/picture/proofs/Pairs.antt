@@ -5,18 +5,15 @@ use mathlib.Core.Bool.{Bool, true, false}
 use Prim.Native.Nat.{ℕ, suc, _+_, _*_, _≤_, _<_}
 use native.Mathlib.Omega.{arith}
 use native.Mathlib.Numerals.{add-one}
-use lib.Ieee.{Float}
 use lib.ListN.{length, take, set}
 use lib.Seq.{take-suc-set}
-use Rattle.floats.specs.Arithmetic.{bits}
-use Rattle.shapes.specs.Drawing.{pairsOf}
-use Rattle.shapes.proofs.PaintLists.{pairs-append}
+use Rattle.shapes.specs.declared.painters.Pair.{Pair}
 use Rattle.picture.specs.Fields.{numberAt, stands, widthIn, sizeBy}
-use Rattle.picture.specs.Records.{maxFile, pairsAt, pairCount, pointsWidths}
+use Rattle.picture.specs.Records.{maxFile, pairAt, pairsAt, pairCount, pointsWidths}
 
-pub pairs-next : (part : List ℕ) (pairs : List (List Float)) (i : ℕ) (pair : List Float) → i < length pairs → pairsOf (take i pairs) ≡ pairsAt part 2 i
-    → pair ≡ (bits (numberAt part (2 + 16 * i) 8) ∷ bits (numberAt part (2 + 16 * i + 8) 8) ∷ []) → pairsOf (take (i + 1) (set pairs i pair)) ≡ pairsAt part 2 (i + 1)
-pairs-next part pairs i pair h e p = rw (add-one, take-suc-set pairs i pair h, pairs-append (take i pairs) (pair ∷ []), e, p)
+pub pairs-next : (part : List ℕ) (pairs : List Pair) (i : ℕ) (pair : Pair) → i < length pairs → take i pairs ≡ pairsAt part 2 i → pair ≡ pairAt part (2 + 16 * i)
+    → take (i + 1) (set pairs i pair) ≡ pairsAt part 2 (i + 1)
+pairs-next part pairs i pair h e p = rw (add-one, take-suc-set pairs i pair h, e, p)
 
 -- a list that fits a file has few enough pairs for the call's own list
 pub few-pairs : (map : ℕ) (part : List ℕ) → sizeBy map (pointsWidths part) ≤ length part → length part ≤ maxFile → pairCount map part ≤ 4096

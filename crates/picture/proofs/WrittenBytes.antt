@@ -6,7 +6,7 @@ use lib.Dec.{T, ltb, lit<}
 use lib.Ieee.{Float, binary64, toBits}
 use lib.ListN.{length}
 use Rattle.walk.specs.declared.clip.Segment.{Segment}
-use Rattle.shapes.specs.Shapes.{Pair}
+use Rattle.shapes.specs.declared.painters.Pair.{Pair}
 use Rattle.shapes.specs.declared.painters.Shape.{Shape}
 use Rattle.shapes.specs.declared.painters.Shape.the-variants.{Line, FilledLine, Rectangle, Circle}
 use Rattle.canvas.specs.Calls.{Opening, Call, draw, points, dot, layer, marker, print, render}

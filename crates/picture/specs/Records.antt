@@ -9,7 +9,7 @@ use Rattle.floats.specs.Arithmetic.{bits}
 use Rattle.walk.specs.Tabulate.{tabulate}
 use Rattle.walk.specs.declared.clip.Segment.{Segment}
 use Rattle.shapes.specs.Limits.{reset}
-use Rattle.shapes.specs.Shapes.{Pair}
+use Rattle.shapes.specs.declared.painters.Pair.{Pair}
 use Rattle.shapes.specs.declared.painters.Shape.the-variants.{Line, FilledLine, Rectangle, Circle}
 use Rattle.canvas.specs.Calls.{Opening, Call, draw, points, dot, layer, marker, print, first}
 use Rattle.canvas.specs.declared.labels.Choice.{Choice}

@@ -13,27 +13,26 @@ use canvas::calls::dot;
 use canvas::calls::draw;
 use canvas::calls::layer;
 use canvas::calls::marker;
-use canvas::calls::points;
 use canvas::calls::print;
 use canvas::labels::Choice;
 use canvas::state::Answer;
 use canvas::state::Called;
 use canvas::state::Canvas;
+use pairs::points::points;
+use shapes::painters::Pair;
 use shapes::painters::Shape;
 use walk::clip::Segment;
 ghost use mathlib.Core.Path.{_≡_};
 ghost use mathlib.Core.Bool.{cond};
-ghost use mathlib.Core.List.{List, _∷_, []};
+ghost use mathlib.Core.List.{List};
 ghost use Prim.Native.Nat.{ℕ, _+_, _*_, _≤_, _<_, _^_};
 ghost use lib.ListN.{length, take};
-ghost use Rattle.floats.specs.Arithmetic.{bits};
-ghost use Rattle.shapes.specs.Drawing.{pairsOf};
-ghost use Rattle.canvas.specs.Calls.{Call, draw};
+ghost use Rattle.canvas.specs.Calls.{Call, draw, points};
 ghost use Rattle.canvas.specs.Model.{stateAfter};
 ghost use Rattle.canvas.specs.Contracts.{given, calledOn};
 ghost use Rattle.picture.specs.Fields.{numberAt, stands, widthIn, placeOf, sizeBy, floatField};
 ghost use Rattle.picture.specs.Run.{stepBy, recordState, recordTaken};
-ghost use Rattle.picture.specs.Records.{maxFile, lineWidths, filledLineWidths, circleWidths, pointsWidths, markerWidths, labelWidths, dotWidths, textPlace, widthsOf, segmentFields, colourField, lineCall, filledLineCall, rectangleCall, circleCall, pairsAt, pairCount, pointsCall, markerCall, labelColour, labelText, labelCall, dotCall, callOf, kindAt, mapAt, partAt, recordEnd, recordForm};
+ghost use Rattle.picture.specs.Records.{maxFile, lineWidths, filledLineWidths, circleWidths, pointsWidths, markerWidths, labelWidths, dotWidths, textPlace, widthsOf, segmentFields, colourField, lineCall, filledLineCall, rectangleCall, circleCall, pairAt, pairsAt, pairCount, pointsCall, markerCall, labelColour, labelText, labelCall, dotCall, callOf, kindAt, mapAt, partAt, recordEnd, recordForm};
 
 // The next place in the file, or the refusal with document 01's number.
 pub enum Step {
@@ -326,15 +325,15 @@ fn drawing_of(kind: u8, map: u8, part: &[u8]) -> Drawing
 }
 
 // The pair at a place.
-fn pair_at(part: &[u8], at: usize) -> [f64; 2]
+fn pair_at(part: &[u8], at: usize) -> Pair
     requires { ⌜ at + 16 < 2 ^ 32 ⌝ }
-    ensures { λ r. ⌜ r ≡ (bits (numberAt (now (part .entry)) at 8) ∷ bits (numberAt (now (part .entry)) (at + 8) 8) ∷ []) ⌝ }
+    ensures { λ r. ⌜ r ≡ pairAt (now (part .entry)) at ⌝ }
 {
-    let x = number64(part, at);
-    let y = number64(part, at + 8);
-    let first = from_bits(x);
-    let second = from_bits(y);
-    [first, second]
+    let first = number64(part, at);
+    let second = number64(part, at + 8);
+    let x = from_bits(first);
+    let y = from_bits(second);
+    Pair { x, y }
 }
 
 // How many pairs a points record has, and where its list ends.
@@ -356,20 +355,38 @@ fn list_end(map: u8, part: &[u8]) -> usize
     after(0, map, 1, 2 + 16 * n)
 }
 
-// The first pairs of a list, read from the bytes after the count.
-fn read_pairs(part: &[u8], count: usize, pairs: &mut [[f64; 2]])
-    requires { ⌜ (count ≤ 65536) × (count ≤ length (now pairs)) ⌝ }
-    ensures { λ r. ⌜ (pairsOf (take count (now (pairs .exit))) ≡ pairsAt (now (part .entry)) 2 count) × (length (now (pairs .exit)) ≡ length (now (pairs .entry))) ⌝ }
+// The pairs after the count, at the start of a list that holds as many as a file can have.
+fn read_pairs(part: &[u8], count: usize) -> [Pair; 4096]
+    requires { ⌜ count ≤ 4096 ⌝ }
+    ensures { λ r. ⌜ take count r ≡ pairsAt (now (part .entry)) 2 count ⌝ }
 {
+    let mut pairs = [Pair { x: 0.0, y: 0.0 }; 4096];
     let mut i: usize = 0;
     while i < count {
         pairs[i] = pair_at(part, 2 + 16 * i);
         i += 1;
     }
+    pairs
 }
 
-// A points record: its pairs are read into a list of this call's own, which holds as many as a file
-// can have, so that nothing lent is touched if the call is refused.
+// Points with the first pairs of a list of this call's own, lent: nothing else is touched if the
+// call is refused.
+fn draw_pairs(
+    canvas: Canvas,
+    cells: &mut [u32],
+    labels: &[u32],
+    pairs: [Pair; 4096],
+    count: usize,
+    colour: u32,
+) -> Called
+    requires { ⌜ count ≤ 4096 ⌝ }
+    ensures { λ r. ⌜ (r ≡ calledOn (given canvas (now (cells .entry)) (now (labels .entry))) (points (take count pairs) colour))
+        × (now (cells .exit) ≡ stateAfter (given canvas (now (cells .entry)) (now (labels .entry))) (points (take count pairs) colour) .cells) ⌝ }
+{
+    points(canvas, &mut *cells, labels, &pairs[..count], colour)
+}
+
+// A points record.
 fn points_call(map: u8, part: &[u8], canvas: Canvas, cells: &mut [u32], labels: &[u32]) -> Called
     requires { ⌜ pairCount map (now part) ≤ 4096 ⌝ }
     ensures { λ r. ⌜ (r ≡ calledOn (given canvas (now (cells .entry)) (now (labels .entry))) (pointsCall map (now (part .entry))))
@@ -378,9 +395,8 @@ fn points_call(map: u8, part: &[u8], canvas: Canvas, cells: &mut [u32], labels: 
     let count = pair_count(map, part);
     let at = list_end(map, part);
     let colour = number_field(part, at, map, 2, 16777216);
-    let mut pairs = [[0.0f64; 2]; 4096];
-    read_pairs(part, count, &mut pairs);
-    points(canvas, &mut *cells, labels, &pairs[..count], colour.value)
+    let pairs = read_pairs(part, count);
+    draw_pairs(canvas, &mut *cells, labels, pairs, count, colour.value)
 }
 
 fn marker_call(map: u8, part: &[u8], canvas: Canvas, cells: &mut [u32], labels: &[u32]) -> Called

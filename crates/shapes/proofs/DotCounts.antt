@@ -26,8 +26,9 @@ use Rattle.grids.specs.Markers.{dotSize, dotColumns, dotRows, by}
 use Rattle.grids.specs.declared.markers.Size.{Size}
 use Rattle.shapes.specs.Limits.{maxColumns, maxRows, maxPainted}
 use Rattle.shapes.specs.Point.{outsideBounds, flatBounds, scaledOf, pointOf, viewOf}
-use Rattle.shapes.specs.Shapes.{flat, pointDots, dotsBetween, clippedLine, linePoints, columnTo, filledDots, filledBetween, clippedFill, filledPoints, segment, rectanglePoints, anglePoint, angles, circlePoints, Pair, pairDots}
+use Rattle.shapes.specs.Shapes.{flat, pointDots, dotsBetween, clippedLine, linePoints, columnTo, filledDots, filledBetween, clippedFill, filledPoints, segment, rectanglePoints, anglePoint, angles, circlePoints, pairDots}
 use Rattle.shapes.specs.Drawing.{shapeDots}
+use Rattle.shapes.specs.declared.painters.Pair.{Pair}
 use Rattle.shapes.specs.declared.point.View.{View}
 use Rattle.shapes.specs.declared.point.Found.{Found}
 use Rattle.shapes.specs.declared.point.Found.the-variants.{At, Nowhere}

@@ -4,7 +4,7 @@ use mathlib.Core.Path.{_≡_, refl, sym, ap}
 use mathlib.Core.List.{List, [], _∷_, _++_, append-assoc, append-nil}
 use native.Mathlib.Numerals.{add-one}
 use native.Mathlib.Omega.{arith}
-use lib.Ieee.{Float, nan}
+use lib.Ieee.{Float}
 use lib.ListN.{length, length-append, take, getD}
 use lib.Seq.{take-suc}
 use Rattle.floats.specs.Methods.{toRadiansOf}
@@ -20,7 +20,8 @@ use Rattle.walk.proofs.ClosedFormula.{walks-line}
 use Rattle.grids.proofs.Words.{foldl-append}
 use Rattle.shapes.specs.Point.{whole, pointOf}
 use Rattle.shapes.specs.Shapes.{flat, dotAt, pointDots, columnTo, anglePoint, angles, circlePoints, pairDots}
-use Rattle.shapes.specs.Drawing.{paintedBy, pairsOf}
+use Rattle.shapes.specs.Drawing.{paintedBy}
+use Rattle.shapes.specs.declared.painters.Pair.{Pair}
 use Rattle.shapes.specs.declared.point.View.{View}
 use Rattle.shapes.specs.declared.point.Found.{Found}
 use Rattle.shapes.specs.declared.point.Found.the-variants.{At, Nowhere}
@@ -96,18 +97,14 @@ pub circle-over : (v : View) (x y radius : Float) (k : ℕ) → k ≡ 360 → an
 unfolding circlePoints
 circle-over v x y radius k e = ap (angles v x y radius) e
 
-pub pairs-append : (xs ys : List (List Float)) → pairsOf (xs ++ ys) ≡ pairsOf xs ++ pairsOf ys
-pairs-append [] ys = refl
-pairs-append (x ∷ xs) ys = rw (pairs-append xs ys)
-
-pub pair-next : (p : Painter) (pairs : List (List Float)) (before between after : List ℕ) (k m n : ℕ) → k < length pairs
-    → Painted p before (pairDots (p .view) (pairsOf (take k pairs))) m between
-    → Painted p between (pointDots (pointOf (p .view) (getD (getD pairs k []) 0 nan) (getD (getD pairs k []) 1 nan))) n after
-    → Painted p before (pairDots (p .view) (pairsOf (take (k + 1) pairs))) (m + n) after
+pub pair-next : (p : Painter) (pairs : List Pair) (d : Pair) (before between after : List ℕ) (k m n : ℕ) → k < length pairs
+    → Painted p before (pairDots (p .view) (take k pairs)) m between
+    → Painted p between (pointDots (pointOf (p .view) (getD pairs k d .x) (getD pairs k d .y))) n after
+    → Painted p before (pairDots (p .view) (take (k + 1) pairs)) (m + n) after
 unfolding pairDots
-pair-next p pairs before between after k m n l g h =
-    rw (add-one, take-suc pairs k [] l, pairs-append (take k pairs) (getD pairs k [] ∷ []), flat-append, append-nil)
-    (painted-then p before between after (pairDots (p .view) (pairsOf (take k pairs))) (pointDots (pointOf (p .view) (getD (getD pairs k []) 0 nan) (getD (getD pairs k []) 1 nan))) m n g h)
+pair-next p pairs d before between after k m n l g h =
+    rw (add-one, take-suc pairs k d l, flat-append, append-nil)
+    (painted-then p before between after (pairDots (p .view) (take k pairs)) (pointDots (pointOf (p .view) (getD pairs k d .x) (getD pairs k d .y))) m n g h)
 
 -- ---- no dot, and one
 pub painted-none : (p : Painter) (before : List ℕ) (dots : List Dot) → dots ≡ [] → Painted p before dots 0 before

@@ -1,11 +1,9 @@
 -- The dots of any shape, and what painting them leaves in the store.
 use Prim.Native.Nat.{ℕ}
-use mathlib.Core.List.{List, [], _∷_}
-use lib.Ieee.{Float, nan}
-use lib.ListN.{getD}
+use mathlib.Core.List.{List}
 use Rattle.walk.specs.declared.bresenham.Dot.{Dot}
 use Rattle.grids.specs.Painting.{paintDots}
-use Rattle.shapes.specs.Shapes.{linePoints, filledPoints, rectanglePoints, circlePoints, Pair}
+use Rattle.shapes.specs.Shapes.{linePoints, filledPoints, rectanglePoints, circlePoints}
 use Rattle.shapes.specs.declared.point.View.{View}
 use Rattle.shapes.specs.declared.painters.Shape.{Shape}
 use Rattle.shapes.specs.declared.painters.Shape.the-variants.{Line, FilledLine, Rectangle, Circle}
@@ -19,8 +17,3 @@ shapeDots v (Circle x y radius) = circlePoints v x y radius
 
 abbrev pub paintedBy : Painter → List ℕ → List Dot → List ℕ
 paintedBy p cells dots = paintDots (p .marker) (p .columns) (p .rows) (p .word) cells dots
-
--- a lent list of coordinate pairs
-abbrev pub pairsOf : List (List Float) → List Pair
-pairsOf [] = []
-pairsOf (p ∷ pairs) = record { x = getD p 0 nan; y = getD p 1 nan } ∷ pairsOf pairs

@@ -14,6 +14,7 @@ use Rattle.walk.specs.Clip.{clipOf}
 use Rattle.walk.specs.Tabulate.{tabulate}
 use Rattle.walk.specs.Line.{apart, lineDots}
 use Rattle.shapes.specs.Point.{whole, pointOf}
+use Rattle.shapes.specs.declared.painters.Pair.{Pair}
 use Rattle.shapes.specs.declared.point.View.{View}
 use Rattle.shapes.specs.declared.point.Found.{Found}
 use Rattle.shapes.specs.declared.point.Found.the-variants.{At, Nowhere}
@@ -89,9 +90,5 @@ unfoldable pub circlePoints : View → Float → Float → Float → List Dot
 circlePoints v x y radius = angles v x y radius 360
 
 -- Points: 'one per dot inside', by the pairs' numbers
-pub record Pair : Type 0 where
-  pub x : Float
-  pub y : Float
-
 unfoldable pub pairDots : View → List Pair → List Dot
 pairDots v pairs = flat (λ p. pointDots (pointOf v (p .x) (p .y))) pairs

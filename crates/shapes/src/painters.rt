@@ -19,8 +19,8 @@ ghost use Prim.Native.Nat.{_+_};
 ghost use lib.ListN.{length};
 ghost use Rattle.walk.specs.Line.{lineDots};
 ghost use Rattle.shapes.specs.Point.{pointOf};
-ghost use Rattle.shapes.specs.Shapes.{flat, dotAt, pointDots, linePoints, columnTo, filledPoints, rectanglePoints, circlePoints, pairDots};
-ghost use Rattle.shapes.specs.Drawing.{shapeDots, paintedBy, pairsOf};
+ghost use Rattle.shapes.specs.Shapes.{flat, dotAt, pointDots, linePoints, columnTo, filledPoints, rectanglePoints, circlePoints};
+ghost use Rattle.shapes.specs.Drawing.{shapeDots, paintedBy};
 
 // A shape with its floats. The pairs of a Points stand beside it.
 pub enum Shape {
@@ -28,6 +28,12 @@ pub enum Shape {
     FilledLine(Segment, f64),
     Rectangle(f64, f64, f64, f64),
     Circle(f64, f64, f64),
+}
+
+// A coordinate pair of a Points.
+pub struct Pair {
+    pub x: f64,
+    pub y: f64,
 }
 
 // Where a draw paints: the view, the canvas' size and marker, and the ink's word.
@@ -259,17 +265,4 @@ pub fn paint_shape(cells: &mut [u32], p: Painter, shape: Shape) -> u64
         ),
         Shape::Circle(x, y, radius) => paint_circle(&mut *cells, p, x, y, radius),
     }
-}
-
-// The points of a lent list of coordinate pairs.
-pub fn paint_pairs(cells: &mut [u32], p: Painter, pairs: &[[f64; 2]]) -> u64
-    ensures { λ r. ⌜ (r ≡ length (pairDots (p .view) (pairsOf (now (pairs .entry))))) × (now (cells .exit) ≡ paintedBy p (now (cells .entry)) (pairDots (p .view) (pairsOf (now (pairs .entry))))) ⌝ }
-{
-    let mut painted: u64 = 0;
-    let mut i: usize = 0;
-    while i < pairs.len() {
-        painted += paint_point(&mut *cells, p, pairs[i][0], pairs[i][1]);
-        i += 1;
-    }
-    painted
 }

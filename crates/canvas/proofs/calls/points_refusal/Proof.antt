@@ -2,7 +2,6 @@
 use borrow.Author.Tests.{lt-ltb, le-ltb}
 use Rattle.canvas.specs.Calls.{refusal}
 use Rattle.canvas.proofs.CallSteps.{or-first}
-use Rattle.canvas.proofs.Scans.{pairs-length}
 use borrow.Author.Needs.{needs}
 use Rattle.canvas.proofs.calls.points_refusal.Statement.{statement}
 use Rattle.canvas.proofs.calls.points_refusal.Tie as tie
@@ -11,48 +10,33 @@ state-requires : tie.Need-state-requires
 state-requires c κs = search needs
 
 returns : tie.Need-returns
-returns c = or-first _ _ _ (c .before .state .ensures) (c .if1 .taken)
-
-is-bad-pairs-requires : tie.Need-is-bad-pairs-requires
-is-bad-pairs-requires c κs = search needs
+returns c pairs e n = or-first _ _ _ (c .before .state .ensures) (c .if1 .taken)
 
 returns-2 : tie.Need-returns-2
 unfolding refusal
-returns-2 c = rw (← c .before .before .before .state .ensures, c .before .before .if1 .left, ← c .before .is-bad-pairs .ensures, c .if2 .taken)
+returns-2 c pairs e n = rw (← c .before .before .state .ensures, c .before .if1 .left, ← e, c .if2 .taken)
 
 is-bad-colour-requires : tie.Need-is-bad-colour-requires
 is-bad-colour-requires c κs = search needs
 
 returns-3 : tie.Need-returns-3
 unfolding refusal
-returns-3 c = rw (← c .before .before .before .before .before .state .ensures, c .before .before .before .before .if1 .left, ← c .before .before .before .is-bad-pairs .ensures, c .before .before .if2 .left, ← c .before .is-bad-colour .ensures, c .if3 .taken)
+returns-3 c pairs e n = rw (← c .before .before .before .before .state .ensures, c .before .before .before .if1 .left, ← e, c .before .before .if2 .left, ← c .before .is-bad-colour .ensures, c .if3 .taken)
 
 is-full-requires : tie.Need-is-full-requires
 is-full-requires c κs = search needs
 
 returns-4 : tie.Need-returns-4
 unfolding refusal
-returns-4 c = rw (← c .before .before .before .before .before .before .before .state .ensures, c .before .before .before .before .before .before .if1 .left, ← c .before .before .before .before .before .is-bad-pairs .ensures, c .before .before .before .before .if2 .left, ← c .before .before .before .is-bad-colour .ensures, c .before .before .if3 .left, ← c .before .is-full .ensures, c .if4 .taken)
+returns-4 c pairs e n = rw (← c .before .before .before .before .before .before .state .ensures, c .before .before .before .before .before .if1 .left, ← e, c .before .before .before .before .if2 .left, ← c .before .before .before .is-bad-colour .ensures, c .before .before .if3 .left, ← c .before .is-full .ensures, c .if4 .taken)
 
 returns-5 : tie.Need-returns-5
 unfolding refusal
-returns-5 c = rw (← c .before .before .before .before .before .before .before .before .state .ensures, c .before .before .before .before .before .before .before .if1 .left, ← c .before .before .before .before .before .before .is-bad-pairs .ensures, c .before .before .before .before .before .if2 .left, ← c .before .before .before .before .is-bad-colour .ensures, c .before .before .before .if3 .left, ← c .before .before .is-full .ensures, c .before .if4 .left, pairs-length _, lt-ltb _ _ (c .if5 .taken))
+returns-5 c pairs e n = rw (← c .before .before .before .before .before .before .before .state .ensures, c .before .before .before .before .before .before .if1 .left, ← e, c .before .before .before .before .before .if2 .left, ← c .before .before .before .before .is-bad-colour .ensures, c .before .before .before .if3 .left, ← c .before .before .is-full .ensures, c .before .if4 .left, ← n, lt-ltb _ _ (c .if5 .taken))
 
 returns-6 : tie.Need-returns-6
 unfolding refusal
-returns-6 c = rw (← c .before .before .before .before .before .before .before .before .state .ensures, c .before .before .before .before .before .before .before .if1 .left, ← c .before .before .before .before .before .before .is-bad-pairs .ensures, c .before .before .before .before .before .if2 .left, ← c .before .before .before .before .is-bad-colour .ensures, c .before .before .before .if3 .left, ← c .before .before .is-full .ensures, c .before .if4 .left, pairs-length _, le-ltb _ _ (c .if5 .left))
+returns-6 c pairs e n = rw (← c .before .before .before .before .before .before .before .state .ensures, c .before .before .before .before .before .before .if1 .left, ← e, c .before .before .before .before .before .if2 .left, ← c .before .before .before .before .is-bad-colour .ensures, c .before .before .before .if3 .left, ← c .before .before .is-full .ensures, c .before .if4 .left, ← n, le-ltb _ _ (c .if5 .left))
 
 pub points-refusal-spec : {M : Type 1} → statement M
-points-refusal-spec =
-    tie.close
-    (tie.spec
-    state-requires
-    returns
-    is-bad-pairs-requires
-    returns-2
-    is-bad-colour-requires
-    returns-3
-    is-full-requires
-    returns-4
-    returns-5
-    returns-6)
+points-refusal-spec = tie.close (tie.spec state-requires returns returns-2 is-bad-colour-requires returns-3 is-full-requires returns-4 returns-5 returns-6)

@@ -1,9 +1,8 @@
 -- The pairs so far are those of the bytes.
 use native.Mathlib.Omega.{arith}
-use mathlib.Core.Path.{_≡_, refl, sym, _∙_}
+use mathlib.Core.Path.{_≡_, refl}
 use Prim.Native.Nat.{_-_, _≤_}
 use lib.ListN.{length, take, length-set}
-use Rattle.shapes.specs.Drawing.{pairsOf}
 use Rattle.picture.specs.Records.{pairsAt}
 use Rattle.picture.proofs.Pairs.{pairs-next}
 use borrow.Author.Needs.{needs}
@@ -11,7 +10,7 @@ use Rattle.picture.proofs.records.read_pairs.Statement.{statement}
 use Rattle.picture.proofs.records.read_pairs.Tie as tie
 
 abbrev Inv-loop : tie.InvT-loop
-Inv-loop part count pairs₀ i₀ pairs i = (i ≤ count) × (length pairs ≡ length pairs₀) × (pairsOf (take i pairs) ≡ pairsAt part 2 i)
+Inv-loop part count pairs₀ i₀ pairs i = (i ≤ count) × (length pairs ≡ 4096) × (take i pairs ≡ pairsAt part 2 i)
 
 abbrev μ-loop : tie.MeasureT-loop
 μ-loop part count pairs₀ i₀ pairs i = count - i
@@ -28,11 +27,11 @@ add-pair-at c = search needs
 pair-at-requires : tie.Need-pair-at-requires Inv-loop μ-loop
 pair-at-requires c κs = search needs
 
-mul-t9 : tie.Need-mul-t9 Inv-loop μ-loop
-mul-t9 c = search needs
+mul-pairs : tie.Need-mul-pairs Inv-loop μ-loop
+mul-pairs c = search needs
 
-slice-set-from-pairs : tie.Need-slice-set-from-pairs Inv-loop μ-loop
-slice-set-from-pairs c = search needs
+array-set-from-pairs : tie.Need-array-set-from-pairs Inv-loop μ-loop
+array-set-from-pairs c = search needs
 
 add-i : tie.Need-add-i Inv-loop μ-loop
 add-i c = search needs
@@ -46,14 +45,11 @@ loop-again c =
     let a = c .before .before .before .before .args in
     (omega (arith, c .before .loop-test .taken), simp length-set (l .inv .1), pairs-next (a .part .now) (l .pairs) (l .i) _ (omega (arith, c .before .loop-test .taken)) (l .inv .2) (c .pair-at .ensures))
 
-same-length : tie.Need-same-length Inv-loop μ-loop
-same-length c = search needs
-
 returns : tie.Need-returns Inv-loop μ-loop
 returns c =
     let l = c .before .loop in
     let e : l .i ≡ c .before .before .before .args .count = omega (arith, c .loop-test .left) in
-    (rw (← e) (l .inv .2), l .inv .1)
+    rw (← e) (l .inv .2)
 
 pub read-pairs-spec : {M : Type 1} → statement M
 read-pairs-spec =
@@ -65,10 +61,9 @@ read-pairs-spec =
     mul-pair-at
     add-pair-at
     pair-at-requires
-    mul-t9
-    slice-set-from-pairs
+    mul-pairs
+    array-set-from-pairs
     add-i
     loop-less
     loop-again
-    same-length
     returns)
