@@ -1,0 +1,45 @@
+-- The numbers that an outcome sets, by case.
+use Prim.Native.Nat.{ℕ}
+use mathlib.Core.Path.{_≡_, refl, sym, _∙_}
+use lib.Ieee.{Float}
+use Rattle.canvas.specs.PointCall.{pointedOn}
+use Rattle.canvas.specs.declared.state.Canvas.{Canvas}
+use Rattle.canvas.specs.declared.calls.Pointed.{Pointed}
+use Rattle.canvas.specs.declared.calls.Pointed.the-variants as pointed
+use Rattle.picture.specs.declared.run.Drawn.{Drawn}
+use Rattle.picture.specs.declared.run.Drawn.the-variants as drawn
+use Rattle.exports.specs.Draw.{drawStatus, paintedAfter, labelCellsAfter, placeAfter}
+use Rattle.exports.specs.GetPoint.{pointStatus, columnAfter, rowAfter, IsDot, IsNone}
+use Rattle.exports.proofs.Statuses.{zero-dot, last-none}
+
+-- ---- a picture file: its status, and the three numbers after it
+
+abbrev Answered : Drawn → ℕ → ℕ → ℕ → ℕ → ℕ → ℕ → ℕ → Type 0
+Answered d painted labelCells place r painted′ labelCells′ place′ =
+    (r ≡ drawStatus d) × ((painted′ ≡ paintedAfter d painted) × ((labelCells′ ≡ labelCellsAfter d labelCells) × (place′ ≡ placeAfter d place)))
+
+pub answered-shown : {d other : Drawn} (painted labelCells place dots taken : ℕ) → d ≡ other → d ≡ drawn.Shown dots taken → Answered other painted labelCells place 0 dots taken place
+answered-shown painted labelCells place dots taken is e = rw (sym is ∙ e) (refl, (refl, (refl, refl)))
+
+pub answered-refused : {d other : Drawn} (painted labelCells place number at : ℕ) → d ≡ other → d ≡ drawn.Refused number at
+    → Answered other painted labelCells place number painted labelCells at
+answered-refused painted labelCells place number at is e = rw (sym is ∙ e) (refl, (refl, (refl, refl)))
+
+-- ---- a point: its status, and the column and row after it
+
+abbrev Told : Pointed → ℕ → ℕ → ℕ → ℕ → ℕ → Type 0
+Told p column row r column′ row′ = (r ≡ pointStatus p) × ((column′ ≡ columnAfter p column) × (row′ ≡ rowAfter p row))
+
+pub told-refused : {p other : Pointed} (column row number : ℕ) → p ≡ other → p ≡ pointed.Refused number → Told other column row number column row
+told-refused column row number is e = rw (sym is ∙ e) (refl, (refl, refl))
+
+pub told-dot : {p other : Pointed} (column row column′ row′ : ℕ) → p ≡ other → p ≡ pointed.Dot column′ row′ → Told other column row 0 column′ row′
+told-dot column row column′ row′ is e = rw (sym is ∙ e) (refl, (refl, refl))
+
+pub told-none : {p other : Pointed} (column row : ℕ) → p ≡ other → p ≡ pointed.None → Told other column row 255 column row
+told-none column row is e = rw (sym is ∙ e) (refl, (refl, refl))
+
+-- with the two numbers that are no refusal's
+pub told : (c : Canvas) (x y : Float) (column row : ℕ) {r column′ row′ : ℕ} → Told (pointedOn c x y) column row r column′ row′
+    → Told (pointedOn c x y) column row r column′ row′ × ((r ≡ 0 → IsDot (pointedOn c x y)) × (r ≡ 255 → IsNone (pointedOn c x y)))
+told c x y column row w = (w, (λ e. zero-dot c x y (sym (w .0) ∙ e), λ e. last-none c x y (sym (w .0) ∙ e)))
