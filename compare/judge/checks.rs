@@ -37,7 +37,7 @@ fn sin_is_the_polyfill() -> bool {
         marker: Marker::Dot,
         background: Color::Reset,
     };
-    let circle = Call::Circle { x: 0.0, y: 0.0, radius: 1.0, color: Color::Rgb(255) };
+    let circle = Call::Circle { x: 0.0, y: 0.0, radius: 1.0, color: Color::Rgb(0, 0, 255) };
     let drawn = draw(&Picture { opening, calls: vec![circle] });
     drawn.is_some_and(|(screen, painted)| painted == 1 && screen[(0, 0)].symbol == '\u{2022}')
 }

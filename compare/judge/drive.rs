@@ -27,16 +27,21 @@ impl Shape for Dot {
 
 /// The screen after `Canvas::render`, on an area that is the whole blank screen.
 pub fn render(picture: &Picture) -> Buffer {
+    let mut screen = Buffer::blank(picture.opening.columns, picture.opening.rows);
+    render_on(picture, &mut screen);
+    screen
+}
+
+/// `Canvas::render` on an area that is the whole of a screen of the picture's size.
+pub fn render_on(picture: &Picture, screen: &mut Buffer) {
     let Opening { columns, rows, left, right, bottom, top, marker, background } = picture.opening;
-    let mut screen = Buffer::blank(columns, rows);
     Canvas::default()
         .x_bounds([left, right])
         .y_bounds([bottom, top])
         .marker(marker)
         .background_color(background)
         .paint(|context: &mut Context| picture.calls.iter().for_each(|call| hand_over(context, call)))
-        .render(Rect { x: 0, y: 0, width: columns, height: rows }, &mut screen);
-    screen
+        .render(Rect { x: 0, y: 0, width: columns, height: rows }, screen);
 }
 
 fn hand_over(context: &mut Context, call: &Call) {

@@ -33,12 +33,13 @@ pub mod layout {
 }
 
 pub mod style {
-    /// Document 01: 'A colour is 0 to 16,777,215 (RGB), or 16,777,216, Reset.'
+    /// Document 01: 'A colour is 0 to 16,777,215 (RGB), or 16,777,216, Reset.' Three bytes, as in the crate itself, so
+    /// that a cell of the canvas takes no more memory than there.
     #[derive(Clone, Copy, Debug, Default, PartialEq, Eq)]
     pub enum Color {
         #[default]
         Reset,
-        Rgb(u32),
+        Rgb(u8, u8, u8),
     }
 
     /// The number of Reset; every number above it is no colour.
@@ -46,9 +47,10 @@ pub mod style {
 
     impl Color {
         pub fn from_number(number: u32) -> Option<Self> {
+            let [high, red, green, blue] = number.to_be_bytes();
             match number {
-                0..RESET => Some(Self::Rgb(number)),
                 RESET => Some(Self::Reset),
+                _ if high == 0 => Some(Self::Rgb(red, green, blue)),
                 _ => None,
             }
         }
@@ -56,7 +58,7 @@ pub mod style {
         pub fn number(self) -> u32 {
             match self {
                 Self::Reset => RESET,
-                Self::Rgb(number) => number,
+                Self::Rgb(red, green, blue) => u32::from_be_bytes([0, red, green, blue]),
             }
         }
     }
@@ -108,14 +110,17 @@ pub mod buffer {
     }
 
     impl Cell {
+        #[inline]
         pub fn set_char(&mut self, symbol: char) {
             self.symbol = symbol;
         }
 
+        #[inline]
         pub fn set_fg(&mut self, color: Color) {
             self.foreground = color;
         }
 
+        #[inline]
         pub fn set_bg(&mut self, color: Color) {
             self.background = color;
         }
@@ -156,6 +161,7 @@ pub mod buffer {
             }
         }
 
+        #[inline]
         fn place(&self, column: u16, row: u16) -> usize {
             assert!(column < self.columns, "a column past the screen's edge");
             usize::from(row) * usize::from(self.columns) + usize::from(column)
@@ -165,12 +171,14 @@ pub mod buffer {
     impl Index<(u16, u16)> for Buffer {
         type Output = Cell;
 
+        #[inline]
         fn index(&self, (column, row): (u16, u16)) -> &Cell {
             &self.cells[self.place(column, row)]
         }
     }
 
     impl IndexMut<(u16, u16)> for Buffer {
+        #[inline]
         fn index_mut(&mut self, (column, row): (u16, u16)) -> &mut Cell {
             let place = self.place(column, row);
             &mut self.cells[place]
