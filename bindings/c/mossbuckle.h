@@ -1,5 +1,5 @@
 /* The layout canvas for C: the functions of the archive target/staticlib/libexports.a, which
- * `rt staticlib exports` proves and writes. It links into x86-64 Linux programs and needs only memset.
+ * `rt staticlib exports` proves and writes. It links into x86-64 Linux programs and needs only memcpy and memset.
  *
  * Each function ends and is safe for every number and every length; what it must equal is its contract in
  * crates/exports/src/lib.rt. A refusal is a number of document 01 (MOSSBUCKLE_REFUSED_.. below).
