@@ -11,7 +11,7 @@
  * - What one call may write overlaps nothing else that the call is handed, and no other thread uses it
  *   meanwhile.
  * There is no state between calls: threads may call with memory of their own. mossbuckle_draw takes some
- * 140 KB of stack, the others a few KB.
+ * 8 KB of stack, the others a few KB.
  */
 #ifndef MOSSBUCKLE_H
 #define MOSSBUCKLE_H

@@ -1,24 +1,2 @@
--- Laws of the calls and of the ledger, and the proof of the promise.
-pub mod Tests
-pub mod Scans
-pub mod Runs
-pub mod Spots
-pub mod Fitting
-pub mod Written
-pub mod DotCounts
-pub mod BoundsInDomain
-pub mod LabelStore
-pub mod Refusals
-pub mod Composing
-pub mod Sums
-pub mod Simulation
-pub mod ScreenCells
-pub mod Replies
-pub mod Exchanges
-pub mod Likeness
-pub mod Reorder
-pub mod CallSteps
-pub mod PaintSteps
-pub mod LabelSteps
-pub mod Answers
+-- Demand 3 of the calls of this crate.
 pub mod Promise

@@ -1,33 +1,34 @@
 // The calls on a canvas: document 01, 'Calls and refusals, in order'. The canvas goes in by value and
 // comes back; a refused call gives its number and leaves the canvas and every lent list as they were.
-use crate::labels::Choice;
-use crate::labels::choice_word;
-use crate::labels::is_bad_choice;
-use crate::labels::is_bad_text;
-use crate::labels::put_label;
-use crate::screen::Area;
-use crate::screen::is_bad_screen;
-use crate::screen::lay;
-use crate::screen::passes_edge;
-use crate::screen::write_labels;
-use crate::state::Answer;
-use crate::state::Called;
-use crate::state::Canvas;
-use crate::state::is_bad_bounds;
-use crate::state::is_bad_canvas;
-use crate::state::is_bad_colour;
-use crate::state::is_bad_point;
-use crate::state::is_bad_shape;
-use crate::state::is_bad_size;
-use crate::state::is_full;
-use crate::state::is_outside_grid;
-use crate::state::state;
-use grids::layer::blank;
-use grids::layer::reset;
-use grids::layer::save;
+use display::labels::choice_word;
+use display::labels::is_bad_choice;
+use display::labels::is_bad_text;
+use display::labels::put_label;
+use display::laying::is_bad_screen;
+use display::laying::lay;
+use display::laying::passes_edge;
+use display::laying::write_labels;
 use grids::markers::is_marker;
 use grids::painting::cell_count;
 use grids::painting::paint;
+use layers::blank;
+use layers::reset;
+use layers::save_reset;
+use ledger::labels::Choice;
+use ledger::screen::Area;
+use ledger::state::Answer;
+use ledger::state::Called;
+use ledger::state::Canvas;
+use ledger::state::Pointed;
+use limits::state::is_bad_bounds;
+use limits::state::is_bad_canvas;
+use limits::state::is_bad_colour;
+use limits::state::is_bad_point;
+use limits::state::is_bad_shape;
+use limits::state::is_bad_size;
+use limits::state::is_full;
+use limits::state::is_outside_grid;
+use limits::state::state;
 use shapes::painters::Painter;
 use shapes::painters::Shape;
 use shapes::painters::paint_shape;
@@ -37,23 +38,15 @@ use shapes::point::point;
 use shapes::point::view_of;
 use walk::clip::Bounds;
 ghost use mathlib.Core.Path.{_≡_};
-ghost use mathlib.Core.Bool.{cond};
 ghost use mathlib.Core.List.{List};
 ghost use Prim.Native.Nat.{_+_, _≤_, _<_, _^_};
 ghost use lib.ListN.{length};
 ghost use Rattle.shapes.specs.Limits.{maxColumns, maxRows, maxDraws, reset};
 ghost use Rattle.shapes.specs.declared.painters.Pair.{Pair};
-ghost use Rattle.canvas.specs.Calls.{badPairs, openRefusal, draw, points, dot, layer, marker, print, render};
-ghost use Rattle.canvas.specs.Model.{zeroCanvas, openCells, drawnCanvas, laidCells, renderedCells, stateAfter};
-ghost use Rattle.canvas.specs.Contracts.{given, refusalBy, calledOn, screenOn, openCalled, painterOf};
-ghost use Rattle.canvas.specs.PointCall.{pointedOn};
-
-// What get_point answers.
-pub enum Pointed {
-    Refused(u8),
-    Dot(u16, u16),
-    None,
-}
+ghost use Rattle.ledger.specs.Calls.{badPairs, openRefusal, draw, points, dot, layer, marker, print, render};
+ghost use Rattle.ledger.specs.Model.{zeroCanvas, openCells, drawnCanvas, markedCells, renderedCells, stateAfter};
+ghost use Rattle.ledger.specs.Contracts.{given, refusalBy, calledOn, screenOn, openCalled, painterOf};
+ghost use Rattle.ledger.specs.PointCall.{pointedOn};
 
 // ---- what each call is refused on: the number, or 0
 
@@ -282,12 +275,14 @@ pub fn drawn(c: Canvas, n: u64) -> Called
     }
 }
 
-// A dirty grid laid over the picture.
-fn save_dirty(c: Canvas, cells: &mut [u32])
-    ensures { λ r. ⌜ now (cells .exit) ≡ cond (c .dirty) (laidCells c (now (cells .entry))) (now (cells .entry)) ⌝ }
+// The grid cleared in any case; a dirty one is laid over the picture before.
+fn clear_grid(c: Canvas, cells: &mut [u32])
+    ensures { λ r. ⌜ now (cells .exit) ≡ markedCells c (now (cells .entry)) ⌝ }
 {
     if c.dirty {
-        save(&mut *cells, c.columns, c.rows, c.marker, c.character);
+        save_reset(&mut *cells, c.columns, c.rows, c.marker, c.character);
+    } else {
+        reset(&mut *cells, c.columns, c.rows);
     }
 }
 
@@ -296,8 +291,7 @@ fn finish(c: Canvas, cells: &mut [u32])
     ensures { λ r. ⌜ now (cells .exit) ≡ renderedCells c (now (cells .entry)) ⌝ }
 {
     if c.dirty {
-        save(&mut *cells, c.columns, c.rows, c.marker, c.character);
-        reset(&mut *cells, c.columns, c.rows);
+        save_reset(&mut *cells, c.columns, c.rows, c.marker, c.character);
     }
 }
 
@@ -402,14 +396,13 @@ pub fn layer(canvas: Canvas, cells: &mut [u32], labels: &[u32]) -> Called
     if n != 0 {
         return refused(canvas, n);
     }
-    save(
+    save_reset(
         &mut *cells,
         canvas.columns,
         canvas.rows,
         canvas.marker,
         canvas.character,
     );
-    reset(&mut *cells, canvas.columns, canvas.rows);
     Called {
         canvas: Canvas {
             dirty: false,
@@ -434,8 +427,7 @@ pub fn marker(
     if n != 0 {
         return refused(canvas, n);
     }
-    save_dirty(canvas, &mut *cells);
-    reset(&mut *cells, canvas.columns, canvas.rows);
+    clear_grid(canvas, &mut *cells);
     Called {
         canvas: Canvas {
             marker: number,

@@ -1,9 +1,9 @@
 // Answers questions for the dot of a point: each is a canvas' columns and rows (2 bytes each), its four
 // bounds (8-byte floats), its marker (1), and the point's x and y (8-byte floats), little-endian. The
 // answer is a line: `dot COLUMN ROW`, `none`, or `refused N`.
-use canvas::calls::Pointed;
 use canvas::calls::get_point;
-use canvas::state::Canvas;
+use ledger::state::Canvas;
+use ledger::state::Pointed;
 use picture::fields::from_bits;
 use picture::fields::number8;
 use picture::fields::number16;

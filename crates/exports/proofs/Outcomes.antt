@@ -2,10 +2,10 @@
 use Prim.Native.Nat.{ℕ}
 use mathlib.Core.Path.{_≡_, refl, sym, _∙_}
 use lib.Ieee.{Float}
-use Rattle.canvas.specs.PointCall.{pointedOn}
-use Rattle.canvas.specs.declared.state.Canvas.{Canvas}
-use Rattle.canvas.specs.declared.calls.Pointed.{Pointed}
-use Rattle.canvas.specs.declared.calls.Pointed.the-variants as pointed
+use Rattle.ledger.specs.PointCall.{pointedOn}
+use Rattle.ledger.specs.declared.state.Canvas.{Canvas}
+use Rattle.ledger.specs.declared.state.Pointed.{Pointed}
+use Rattle.ledger.specs.declared.state.Pointed.the-variants as pointed
 use Rattle.picture.specs.declared.run.Drawn.{Drawn}
 use Rattle.picture.specs.declared.run.Drawn.the-variants as drawn
 use Rattle.exports.specs.Draw.{drawStatus, paintedAfter, labelCellsAfter, placeAfter}

@@ -10,12 +10,12 @@ use lib.ListN.{length}
 use Rattle.shapes.specs.Point.{pointOf, viewOf}
 use Rattle.shapes.specs.declared.point.Found.{Found}
 use Rattle.shapes.specs.declared.point.Found.the-variants.{At, Nowhere}
-use Rattle.canvas.specs.Calls.{Call, render, first, badPoint}
-use Rattle.canvas.specs.Ledger.{unless}
-use Rattle.canvas.specs.Model.{State, badCanvas, refusalOn}
-use Rattle.canvas.specs.Contracts.{acceptedAnswer, answerUnless, answerOn}
-use Rattle.canvas.specs.PointCall.{pointRefusal, pointedTo, pointedUnless, pointedOn}
-use Rattle.canvas.specs.declared.state.Canvas.{Canvas}
+use Rattle.ledger.specs.Calls.{Call, render, first, badPoint}
+use Rattle.ledger.specs.Ledger.{unless}
+use Rattle.ledger.specs.Model.{State, badCanvas, refusalOn}
+use Rattle.ledger.specs.Contracts.{acceptedAnswer, answerUnless, answerOn}
+use Rattle.ledger.specs.PointCall.{pointRefusal, pointedTo, pointedUnless, pointedOn}
+use Rattle.ledger.specs.declared.state.Canvas.{Canvas}
 use Rattle.picture.specs.Records.{openingEnd, recordEnd}
 use Rattle.picture.specs.Run.{Ended, openingRefusal, openedState, refusalAt, recordState, runFrom, recordsFrom, areaOf, drawnOf, pictureBy, ended, pictureOf}
 use Rattle.picture.specs.declared.run.Stop.{Stop}

@@ -3,11 +3,11 @@ use Prim.Native.Nat.{ℕ}
 use lib.Ieee.{Float}
 use Rattle.walk.specs.declared.clip.Bounds.{Bounds}
 use Rattle.shapes.specs.Limits.{reset}
-use Rattle.canvas.specs.Model.{openedCanvas}
-use Rattle.canvas.specs.PointCall.{pointedOn}
-use Rattle.canvas.specs.declared.state.Canvas.{Canvas}
-use Rattle.canvas.specs.declared.calls.Pointed.{Pointed}
-use Rattle.canvas.specs.declared.calls.Pointed.the-variants.{Refused, Dot, None}
+use Rattle.ledger.specs.Model.{openedCanvas}
+use Rattle.ledger.specs.PointCall.{pointedOn}
+use Rattle.ledger.specs.declared.state.Canvas.{Canvas}
+use Rattle.ledger.specs.declared.state.Pointed.{Pointed}
+use Rattle.ledger.specs.declared.state.Pointed.the-variants.{Refused, Dot, None}
 
 -- a canvas as it is opened; the dot does not turn on character or background: 'absent: 0020, Reset'
 abbrev pub canvasWith : ℕ → ℕ → Bounds → ℕ → Canvas

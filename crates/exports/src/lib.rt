@@ -1,9 +1,9 @@
 // Functions for C and Rust, on numbers and slices: bindings/ has the C header and the Rust wrapper.
 // Every function is total; its contract says that its answer and all that was lent equal a
 // definition. A slice goes over as a pointer and a length.
-use canvas::calls::Pointed;
 use canvas::calls::get_point;
-use canvas::state::Canvas;
+use ledger::state::Canvas;
+use ledger::state::Pointed;
 use picture::fields::number16;
 use picture::run::Drawn;
 use picture::run::draw_picture;

@@ -17,7 +17,7 @@ apart : (x y : ℕ) → y < x → x ≡ y → ⊥
 apart x y h e = omega arith
 
 -- below or equal, written with the equation either way round
-at-most : (a b : ℕ) → ltb a b || (eqb a b && true) ≡ leb a b
+pub at-most : (a b : ℕ) → ltb a b || (eqb a b && true) ≡ leb a b
 at-most a b = elim (lt-or-le b a) [
   | inl h ↦ simp (le-ltb a b (le-of-lt h), ne-eqb a b (λ e. apart a b h e), lt-leb a b h)
   | inr h ↦ elim (eq-or-lt-of-le h) [ inl e ↦ simp (le-ltb a b (le-of-eq (sym e)), eq-eqb a b e, le-leb a b h) | inr l ↦ simp (lt-ltb a b l, le-leb a b h) ]

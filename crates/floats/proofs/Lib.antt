@@ -4,4 +4,6 @@ pub mod Truncation
 pub mod Sign
 pub mod InDomain
 pub mod Rounding
+pub mod HalfAdded
+pub mod WholePart
 pub mod Samples

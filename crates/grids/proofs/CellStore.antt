@@ -97,18 +97,21 @@ each-past f cells zero i h = refl
 each-past f cells (suc k) i h =
     cell-put-other (eachCell f cells k) k (f (cellAt (eachCell f cells k) k)) i (λ e. omega arith) ∙ each-past f cells k i (omega arith)
 
-pub each-at : (f : Cell → Cell) (cells : List ℕ) (n i : ℕ) → i < n → n * 5 ≤ length cells → cellAt (eachCell f cells n) i ≡ f (cellAt cells i)
-each-at f cells zero i h room = absurd (omega arith)
-each-at f cells (suc k) i h room = go (eqb i k) refl (each-at f cells k i)
+pub each-in : (f : Cell → Cell) (cells : List ℕ) (n i : ℕ) → i < n → i < length cells / 5 → cellAt (eachCell f cells n) i ≡ f (cellAt cells i)
+each-in f cells zero i h held = absurd (omega arith)
+each-in f cells (suc k) i h held = go (eqb i k) refl (each-in f cells k i)
   where
     before : List ℕ
     before = eachCell f cells k
 
-    go : (t : Bool) → eqb i k ≡ t → (i < k → k * 5 ≤ length cells → cellAt before i ≡ f (cellAt cells i)) → cellAt (putCell before k (f (cellAt before k))) i ≡ f (cellAt cells i)
+    go : (t : Bool) → eqb i k ≡ t → (i < k → i < length cells / 5 → cellAt before i ≡ f (cellAt cells i)) → cellAt (putCell before k (f (cellAt before k))) i ≡ f (cellAt cells i)
     go true e ih =
         let here : i ≡ k = eqb-true i k e in
         rw here (cell-put-same before k (f (cellAt before k)) (omega (arith, length-each f cells k)) ∙ ap f (each-past f cells k k (omega arith)))
-    go false e ih = cell-put-other before k (f (cellAt before k)) i (eqb-false i k e) ∙ ih (omega (arith, eqb-false i k e)) (omega arith)
+    go false e ih = cell-put-other before k (f (cellAt before k)) i (eqb-false i k e) ∙ ih (omega (arith, eqb-false i k e)) held
+
+pub each-at : (f : Cell → Cell) (cells : List ℕ) (n i : ℕ) → i < n → n * 5 ≤ length cells → cellAt (eachCell f cells n) i ≡ f (cellAt cells i)
+each-at f cells n i h room = each-in f cells n i h (omega arith)
 
 pub word-each-past : (f : Cell → Cell) (cells : List ℕ) (n j : ℕ) → n * 5 ≤ j → getD (eachCell f cells n) j 0 ≡ getD cells j 0
 word-each-past f cells zero j h = refl

@@ -11,7 +11,7 @@ use Rattle.grids.proofs.Cases.{either}
 abbrev Low : ℕ → Type 0
 Low n = n < 2 ^ 21
 
-braille-lt : (pattern : ℕ) → brailleSymbol pattern < 2 ^ 21
+pub braille-lt : (pattern : ℕ) → brailleSymbol pattern < 2 ^ 21
 unfolding brailleSymbol
 braille-lt pattern = omega arith
 

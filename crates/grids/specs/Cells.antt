@@ -34,6 +34,13 @@ cellAt cells i = cond (hasCell cells i) (wordsAt cells i) blankCell
 unfoldable pub putCell : List ℕ → ℕ → Cell → List ℕ
 putCell cells i c = cond (hasCell cells i) (putWords cells i c) cells
 
+-- the store with f done to its cell i, and to four cells from there on
+abbrev pub doCell : (Cell → Cell) → List ℕ → ℕ → List ℕ
+doCell f cells i = putCell cells i (f (cellAt cells i))
+
+abbrev pub doFour : (Cell → Cell) → List ℕ → ℕ → List ℕ
+doFour f cells i = doCell f (doCell f (doCell f (doCell f cells i) (i + 1)) (i + 2)) (i + 3)
+
 -- the store with f done to each of its first n cells, one after the other
 abbrev pub eachCell : (Cell → Cell) → List ℕ → ℕ → List ℕ
 eachCell f cells zero = cells

@@ -1,6 +1,6 @@
 -- What the grid's words set in a cell, and the grid laid over the picture, cleared, or the store blanked.
 use Prim.Native.Nat.{ℕ, _%_}
-use mathlib.Core.Bool.{cond}
+use mathlib.Core.Bool.{Bool, cond, _&&_}
 use mathlib.Core.List.{List}
 use lib.Dec.{eqb}
 use Rattle.grids.specs.Lists.{over}
@@ -35,6 +35,14 @@ savedCell marker character c = laidOver (layerCell marker character c) c
 
 abbrev pub clearedCell : Cell → Cell
 clearedCell c = withGrid c 0 0
+
+-- both: 'Each saving clears the grid'
+abbrev pub mergedCell : ℕ → ℕ → Cell → Cell
+mergedCell marker character c = clearedCell (savedCell marker character c)
+
+-- the grid holds nothing
+abbrev pub isBare : Cell → Bool
+isBare c = eqb (c .pattern) 0 && eqb (c .ink) 0
 
 -- the first n cells
 abbrev pub saveOf : ℕ → ℕ → List ℕ → ℕ → List ℕ

@@ -1,12 +1,14 @@
 -- A dot painted into the store, and a list of them.
-use Prim.Native.Nat.{ℕ, suc, _*_, _%_}
+use Prim.Native.Nat.{ℕ, suc, _+_, _*_, _/_, _%_, _^_, min}
+use mathlib.Core.Path.{_≡_}
 use mathlib.Core.Bool.{cond}
 use mathlib.Core.List.{List, map}
 use lib.Dec.{eqb, ltb}
+use lib.ListN.{length, getD, set}
 use lib.Bits.{bitOr}
 use Rattle.walk.specs.declared.bresenham.Dot.{Dot}
 use Rattle.grids.specs.Lists.{foldl}
-use Rattle.grids.specs.Markers.{isHalfBlock}
+use Rattle.grids.specs.Markers.{by, dotSize, isHalfBlock}
 use Rattle.grids.specs.Dots.{Inked, cellIndex, bitOf}
 use Rattle.grids.specs.Cells.{cellAt, putCell}
 use Rattle.grids.specs.declared.cells.Cell.{Cell}
@@ -38,3 +40,31 @@ inked ink dots = map (λ d. record { column = d .column; row = d .row; ink = ink
 
 abbrev pub paintInked : ℕ → ℕ → ℕ → List ℕ → List Inked → List ℕ
 paintInked marker columns rows cells dots = foldl (λ s d. paintOf marker columns rows s (d .column) (d .row) (suc (d .ink))) cells dots
+
+-- ---- the same in a loop over dots, with what the loop does not change computed before it
+-- how many of a canvas' cells the store has
+abbrev pub cellsHeld : List ℕ → ℕ → ℕ → ℕ
+cellsHeld cells columns rows = min (columns * rows) (length cells / 5)
+
+-- the bit and ink of a dot in the cell i, where that is one of the first `end` and the store has it; the picture's words stay
+unfoldable pub dotSet : List ℕ → ℕ → ℕ → ℕ → ℕ → List ℕ
+dotSet cells end i bit word =
+    cond (ltb i (min end (length cells / 5)))
+    (set (set cells (i * 5 + 3) (bitOr (getD cells (i * 5 + 3) 0) bit)) (i * 5 + 4) word)
+    cells
+
+-- 'Braille 2 by 4 dots', and '1 by 1 dots for markers 2, 3, 4 and 8'
+abbrev pub brailleDot : ℕ → ℕ → List ℕ → ℕ → ℕ → ℕ → List ℕ
+brailleDot columns end cells column row word = dotSet cells end (row / 4 * columns + column / 2) (2 ^ (row % 4 * 2 + column % 2)) word
+
+abbrev pub plainDot : ℕ → ℕ → List ℕ → ℕ → ℕ → ℕ → List ℕ
+plainDot columns end cells column row word = dotSet cells end (row * columns + column) 1 word
+
+-- Where `end` is the number of cells held, they paint what `paintOf` does.
+abbrev pub BraillePaints : Type 0
+BraillePaints = (columns rows : ℕ) (cells : List ℕ) (column row word end : ℕ) → end ≡ cellsHeld cells columns rows
+    → brailleDot columns end cells column row word ≡ paintOf 1 columns rows cells column row word
+
+abbrev pub PlainPaints : Type 0
+PlainPaints = (marker : ℕ) → dotSize marker ≡ by 1 1 → (columns rows : ℕ) (cells : List ℕ) (column row word end : ℕ) → end ≡ cellsHeld cells columns rows
+    → plainDot columns end cells column row word ≡ paintOf marker columns rows cells column row word

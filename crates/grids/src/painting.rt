@@ -3,18 +3,19 @@ use crate::cells::Cell;
 use crate::cells::load;
 use crate::cells::store;
 ghost use mathlib.Core.Path.{_≡_};
-ghost use Prim.Native.Nat.{_+_, _*_, _<_, _^_};
+ghost use Prim.Native.Nat.{_+_, _*_, _<_, _^_, min};
 ghost use Rattle.grids.specs.Dots.{cellIndex, bitOf};
-ghost use Rattle.grids.specs.Painting.{paintedCell, paintOf};
+ghost use Rattle.grids.specs.Painting.{paintedCell, paintOf, cellsHeld, dotSet, brailleDot, plainDot};
 
-fn index(x: u32) -> usize
+// A number of 32 bits as an index.
+pub fn index(x: u32) -> usize
     ensures { λ r. ⌜ r ≡ x ⌝ }
 {
     x as usize
 }
 
 // The number of a cell by its column and row: of 32 bits each, so that nothing overflows.
-fn flat_index(columns: u16, column: u32, row: u32) -> usize
+pub fn flat_index(columns: u16, column: u32, row: u32) -> usize
     ensures { λ r. ⌜ r ≡ row * columns + column ⌝ }
 {
     index(row) * index(columns as u32) + index(column)
@@ -109,4 +110,51 @@ pub fn paint(
         let d = painted_cell(marker, c, column, row, word);
         store(&mut *cells, i, d);
     }
+}
+
+fn lesser(a: usize, b: usize) -> usize
+    ensures { λ r. ⌜ r ≡ min a b ⌝ }
+{
+    if a < b { a } else { b }
+}
+
+// How many of a canvas' cells the store has: for paint_braille and paint_plain, and to test the cells
+// of a line once.
+pub fn cells_held(cells: &[u32], columns: u16, rows: u16) -> usize
+    ensures { λ r. ⌜ r ≡ cellsHeld (now (cells .entry)) columns rows ⌝ }
+{
+    let n = cell_count(columns, rows);
+    lesser(n, cells.len() / 5)
+}
+
+// A dot's bit and ink set in the cell i, where it is one of the first `end` and the store has it.
+// The picture's three words are not touched.
+fn set_dot(cells: &mut [u32], end: usize, i: usize, b: u32, word: u32)
+    ensures { λ r. ⌜ now (cells .exit) ≡ dotSet (now (cells .entry)) end i b word ⌝ }
+{
+    let held = lesser(end, cells.len() / 5);
+    if i < held {
+        let k = i * 5;
+        let pattern = cells[k + 3];
+        cells[k + 3] = pattern | b;
+        cells[k + 4] = word;
+    }
+}
+
+// What paint does with Braille, where `end` is the number of cells held.
+pub fn paint_braille(cells: &mut [u32], columns: u16, end: usize, column: u32, row: u32, word: u32)
+    ensures { λ r. ⌜ now (cells .exit) ≡ brailleDot columns end (now (cells .entry)) column row word ⌝ }
+{
+    let i = flat_index(columns, column / 2, row / 4);
+    let place = row % 4 * 2 + column % 2;
+    let b = power(place);
+    set_dot(&mut *cells, end, i, b, word);
+}
+
+// The same with a marker of one dot a cell: '1 by 1 dots for markers 2, 3, 4 and 8'.
+pub fn paint_plain(cells: &mut [u32], columns: u16, end: usize, column: u32, row: u32, word: u32)
+    ensures { λ r. ⌜ now (cells .exit) ≡ plainDot columns end (now (cells .entry)) column row word ⌝ }
+{
+    let i = flat_index(columns, column, row);
+    set_dot(&mut *cells, end, i, 1, word);
 }

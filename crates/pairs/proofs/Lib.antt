@@ -2,3 +2,4 @@
 pub mod LentAgain
 pub mod Callee
 pub mod PairScans
+pub mod PointsSteps

@@ -7,7 +7,7 @@ use native.Mathlib.Numerals.{add-one}
 use lib.ListN.{length, getD, drop}
 use lib.Seq.{drop-cons}
 use Rattle.shapes.specs.declared.painters.Pair.{Pair}
-use Rattle.canvas.specs.Calls.{badPoint, badPairs}
+use Rattle.ledger.specs.Calls.{badPoint, badPairs}
 
 pub bad-pairs-from : (pairs : List Pair) (d : Pair) (i : ℕ) → i < length pairs
     → badPairs (drop i pairs) ≡ (badPoint (getD pairs i d .x) (getD pairs i d .y) || badPairs (drop (i + 1) pairs))

@@ -4,9 +4,9 @@ use canvas::calls::drawn;
 use canvas::calls::painter_for;
 use canvas::calls::points_refusal;
 use canvas::calls::refused;
-use canvas::state::Called;
-use canvas::state::Canvas;
-use canvas::state::is_bad_point;
+use ledger::state::Called;
+use ledger::state::Canvas;
+use limits::state::is_bad_point;
 use shapes::painters::Painter;
 use shapes::painters::Pair;
 use shapes::painters::paint_point;
@@ -14,9 +14,9 @@ ghost use mathlib.Core.Path.{_≡_};
 ghost use lib.ListN.{length};
 ghost use Rattle.shapes.specs.Shapes.{pairDots};
 ghost use Rattle.shapes.specs.Drawing.{paintedBy};
-ghost use Rattle.canvas.specs.Calls.{badPairs, points};
-ghost use Rattle.canvas.specs.Model.{stateAfter};
-ghost use Rattle.canvas.specs.Contracts.{given, calledOn};
+ghost use Rattle.ledger.specs.Calls.{badPairs, points};
+ghost use Rattle.ledger.specs.Model.{stateAfter};
+ghost use Rattle.ledger.specs.Contracts.{given, calledOn};
 
 // A pair with a number outside the domain.
 pub fn is_bad_pairs(pairs: &[Pair]) -> bool

@@ -3,7 +3,7 @@ use mathlib.Core.Path.{_≡_}
 use mathlib.Core.List.{List}
 use Prim.Native.Nat.{ℕ, _≤_, _<_}
 use native.Mathlib.Omega.{arith}
-use Rattle.canvas.specs.Calls.{layer}
+use Rattle.ledger.specs.Calls.{layer}
 use Rattle.picture.specs.Records.{pointsCall, markerCall, labelCall, dotCall, callOf}
 
 pub is-points : (kind map : ℕ) (part : List ℕ) → kind ≡ 5 → callOf kind map part ≡ pointsCall map part

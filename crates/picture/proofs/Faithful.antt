@@ -8,17 +8,17 @@ use native.Mathlib.Omega.{arith}
 use lib.Dec.{ltb}
 use lib.ListN.{length}
 use borrow.Author.Tests.{le-ltb}
-use Rattle.canvas.specs.Screen.{cellOn}
-use Rattle.canvas.specs.Calls.{Opening, Call, draw, points, dot, layer, marker, print, render, openRefusal}
-use Rattle.canvas.specs.Ledger.{opened, Reply, unless, replyUnless, ledgerReplies}
-use Rattle.canvas.specs.Model.{State, orRefusal, refusalOn, acceptedOn, replyOn, screenAfter, stateAfter, replyAfter, replies}
-use Rattle.canvas.specs.Contracts.{acceptedAnswer, answerUnless, answerOn, replyOf}
-use Rattle.canvas.specs.Promise.{openState}
-use Rattle.canvas.specs.declared.screen.Area.{Area}
-use Rattle.canvas.specs.declared.state.Answer.{Answer}
-use Rattle.canvas.specs.declared.state.Answer.the-variants as answer
-use Rattle.canvas.proofs.CallSteps.{or-none}
-use Rattle.canvas.proofs.Promise.{promise}
+use Rattle.ledger.specs.Screen.{cellOn}
+use Rattle.ledger.specs.Calls.{Opening, Call, draw, points, dot, layer, marker, print, render, openRefusal}
+use Rattle.ledger.specs.Ledger.{opened, Reply, unless, replyUnless, ledgerReplies}
+use Rattle.ledger.specs.Model.{State, orRefusal, refusalOn, acceptedOn, replyOn, screenAfter, stateAfter, replyAfter, replies}
+use Rattle.ledger.specs.Contracts.{acceptedAnswer, answerUnless, answerOn, replyOf}
+use Rattle.ledger.specs.Promise.{openState}
+use Rattle.ledger.specs.declared.screen.Area.{Area}
+use Rattle.ledger.specs.declared.state.Answer.{Answer}
+use Rattle.ledger.specs.declared.state.Answer.the-variants as answer
+use Rattle.ledger.proofs.CallSteps.{or-none}
+use Rattle.ledger.proofs.Promise.{promise}
 use Rattle.picture.specs.Records.{openingOf, openingEnd, recordCall, recordEnd, recordForm}
 use Rattle.picture.specs.Run.{formOrSize, openingRefusal, openedState, refusalAt, recordState, Ended, runFrom, recordsFrom, Picture, areaOf, drawnOf, pictureBy, ended, pictureOf}
 use Rattle.picture.specs.Meaning.{Entries, end, entry, entryUnless, entriesFrom, entriesOf, callsOf}

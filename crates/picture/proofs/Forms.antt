@@ -2,14 +2,15 @@
 use mathlib.Core.Path.{_≡_, refl, sym, _∙_}
 use mathlib.Core.Bool.{true, false}
 use mathlib.Core.List.{List}
-use Prim.Native.Nat.{ℕ, _+_, _≤_, _<_, _^_}
+use Prim.Native.Nat.{ℕ, zero, suc, _+_, _≤_, _<_, _^_}
 use native.Mathlib.Omega.{arith}
 use lib.ListN.{length}
 use lib.Dec.{ltb, leb}
 use borrow.Author.Tests.{lt-ltb, le-ltb, le-leb, lt-leb, ltb-false}
 use Rattle.floats.proofs.Cases.{or-false-left, or-false-right}
-use Rattle.canvas.proofs.Refusals.{cond-none}
-use Rattle.picture.specs.Records.{maxFile, isUnknown, kindAt, mapAt, recordWidths, recordEnd, recordForm}
+use Rattle.ledger.proofs.Refusals.{cond-none}
+use Rattle.picture.specs.declared.records.Form.{Form}
+use Rattle.picture.specs.Records.{maxFile, isUnknown, kindAt, mapAt, recordWidths, recordEnd, recordForm, formBy}
 
 -- a record of a known kind whose map byte is there
 pub record Headed (file : List ℕ) (at : ℕ) : Type 0 where
@@ -40,6 +41,20 @@ cut-short file at g b h = rw (le-ltb maxFile (length file) (g .within), le-ltb (
 pub well-formed : (file : List ℕ) (at : ℕ) → Headed file at → mapAt file at < 2 ^ length (recordWidths file at) → recordEnd file at ≤ length file → 0 ≡ recordForm file at
 unfolding recordForm
 well-formed file at g b h = rw (le-ltb maxFile (length file) (g .within), le-ltb (length file) (at + 2) (g .header), g .known, lt-leb _ _ b, le-ltb _ _ h)
+
+-- ---- the form as the code has it
+-- refused with a number above 0
+pub refused-form : (n m end : ℕ) (r : Form) → suc n ≡ m → r ≡ record { number = suc n; end = 0 } → r ≡ formBy m end
+refused-form n m end r e h = rw (← e) h
+
+-- its number is the definition's, and with 0 its end is
+pub form-number : (n end : ℕ) (r : Form) → r ≡ formBy n end → r .number ≡ n
+form-number zero end r e = rw e
+form-number (suc n) end r e = rw e
+
+pub form-end : (n end : ℕ) (r : Form) → r ≡ formBy n end → 0 ≡ n → r .end ≡ end
+form-end zero end r e z = rw e
+form-end (suc n) end r e z = absurd (omega (arith, z))
 
 -- a record that meets none of them
 pub record Formed (file : List ℕ) (at : ℕ) : Type 0 where

@@ -3,10 +3,10 @@ use mathlib.Core.Path.{_≡_, refl}
 use mathlib.Core.Bool.{Bool, true, false}
 use Prim.Native.Nat.{ℕ, zero, suc}
 use Rattle.floats.proofs.Cases.{true-not-false, false-not-true}
-use Rattle.canvas.specs.Calls.{Call, draw, points, dot, layer, marker, print, render}
-use Rattle.canvas.specs.Ledger.{unless}
-use Rattle.canvas.specs.Model.{State, refusalOn, stateAfter, acceptedOn}
-use Rattle.canvas.specs.Promise.{isPrint}
+use Rattle.ledger.specs.Calls.{Call, draw, points, dot, layer, marker, print, render}
+use Rattle.ledger.specs.Ledger.{unless}
+use Rattle.ledger.specs.Model.{State, refusalOn, stateAfter, acceptedOn}
+use Rattle.ledger.specs.Promise.{isPrint}
 
 accepted-labels : (s : State) (c : Call) → isPrint c ≡ false → s .labels ≡ acceptedOn s c .labels
 accepted-labels s (draw shape colour) e = refl

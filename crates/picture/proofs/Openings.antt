@@ -7,10 +7,10 @@ use native.Mathlib.Omega.{arith}
 use lib.Dec.{ltb}
 use lib.ListN.{length}
 use borrow.Author.Tests.{lt-ltb, le-ltb, le-leb, lt-leb}
-use Rattle.canvas.specs.Calls.{Opening, openRefusal}
-use Rattle.canvas.specs.Model.{zeroCanvas, openCells}
-use Rattle.canvas.specs.Contracts.{openCalled}
-use Rattle.canvas.specs.declared.state.Called.{Called}
+use Rattle.ledger.specs.Calls.{Opening, openRefusal}
+use Rattle.ledger.specs.Model.{zeroCanvas, openCells}
+use Rattle.ledger.specs.Contracts.{openCalled}
+use Rattle.ledger.specs.declared.state.Called.{Called}
 use Rattle.picture.specs.Fields.{numberAt, sizeBy}
 use Rattle.picture.specs.Records.{maxFile, openingMap, openingWidths, openingPart, openingFrom, openingOf, openingEnd, openingForm}
 use Rattle.picture.specs.declared.opening.Fields.{Fields}

@@ -12,9 +12,9 @@ use Rattle.floats.specs.Arithmetic.{bits}
 use Rattle.walk.specs.declared.clip.Segment.{Segment}
 use Rattle.shapes.specs.declared.painters.Shape.{Shape}
 use Rattle.shapes.specs.declared.painters.Shape.the-variants.{Line, FilledLine, Rectangle, Circle}
-use Rattle.canvas.specs.Calls.{Call, draw, points, dot, layer, marker, print, render}
-use Rattle.canvas.specs.declared.labels.Choice.{Choice}
-use Rattle.canvas.specs.declared.labels.Choice.the-variants.{Nothing, Colour}
+use Rattle.ledger.specs.Calls.{Call, draw, points, dot, layer, marker, print, render}
+use Rattle.ledger.specs.declared.labels.Choice.{Choice}
+use Rattle.ledger.specs.declared.labels.Choice.the-variants.{Nothing, Colour}
 use Rattle.picture.specs.Fields.{stands, numberAt}
 use Rattle.picture.specs.Records.{isUnknown, kindAt, mapAt, pairsAt, widthsOf, callOf, recordWidths, recordCall, recordEnd}
 use Rattle.picture.specs.Encoding.{bytesOf, segmentBytes, pairBytes, shapeBytes, labelBytes, recordBytes, IsFloat, HasFloats, WritableShape, WritableChoice, Writable}

@@ -6,8 +6,8 @@ use native.Mathlib.Omega.{arith}
 use lib.ListN.{length, drop, length-append, length-drop}
 use lib.Seq.{getD-drop, drop-drop}
 use borrow.Author.Tests.{lt-ltb, le-ltb}
-use Rattle.canvas.specs.Calls.{Opening, Call}
-use Rattle.canvas.specs.Promise.{Every, cons}
+use Rattle.ledger.specs.Calls.{Opening, Call}
+use Rattle.ledger.specs.Promise.{Every, cons}
 use Rattle.picture.specs.Fields.{stands}
 use Rattle.picture.specs.Records.{maxFile, recordForm, recordCall, recordEnd, openingOf, openingEnd, openingForm}
 use Rattle.picture.specs.Meaning.{entriesFrom, callsOf}

@@ -6,12 +6,12 @@ use native.Mathlib.Omega.{arith}
 use lib.ListN.{length, take, drop}
 use borrow.Rule.Slice.PartAt.{part-to-end}
 use borrow.Author.Tests.{lt-ltb, le-ltb}
-use Rattle.canvas.specs.Calls.{Call, draw, points, dot, layer, marker, print, render}
-use Rattle.canvas.specs.declared.state.Answer.the-variants as answer
-use Rattle.canvas.specs.Ledger.{unless}
-use Rattle.canvas.specs.Model.{State, orRefusal, refusalOn, stateAfter, acceptedOn}
-use Rattle.canvas.specs.Contracts.{given, answerOn, acceptedAnswer, answerUnless, calledOn}
-use Rattle.canvas.specs.declared.state.Called.{Called}
+use Rattle.ledger.specs.Calls.{Call, draw, points, dot, layer, marker, print, render}
+use Rattle.ledger.specs.declared.state.Answer.the-variants as answer
+use Rattle.ledger.specs.Ledger.{unless}
+use Rattle.ledger.specs.Model.{State, orRefusal, refusalOn, stateAfter, acceptedOn}
+use Rattle.ledger.specs.Contracts.{given, answerOn, acceptedAnswer, answerUnless, calledOn}
+use Rattle.ledger.specs.declared.state.Called.{Called}
 use Rattle.picture.specs.Fields.{sizeBy}
 use Rattle.picture.specs.Records.{callOf, kindAt, mapAt, recordWidths, recordCall, recordEnd, recordForm}
 use Rattle.picture.specs.Run.{stepUnless, stepBy, refusalAt, recordState, recordTaken, Ended, runFrom, recordsFrom}
@@ -130,14 +130,13 @@ pub called-part : (file : List ℕ) (at : ℕ) → callOf (kindAt file at) (mapA
 unfolding recordCall
 called-part file at = rw (part-to-end file (at + 2))
 
-pub taken-called : (s : State) (file : List ℕ) (at size : ℕ) (called : Called) (after : Step) (cells labels : List ℕ) → 0 ≡ recordForm file at
+pub taken-called : (s : State) (file : List ℕ) (at end : ℕ) (called : Called) (after : Step) (cells labels : List ℕ) → 0 ≡ recordForm file at
     → called ≡ calledOn s (recordCall file at) → cells ≡ stateAfter s (recordCall file at) .cells → labels ≡ stateAfter s (recordCall file at) .labels
-    → after ≡ stepBy (called .answer) (at + 2 + size) → size ≡ sizeBy (mapAt file at) (recordWidths file at)
+    → after ≡ stepBy (called .answer) end → end ≡ recordEnd file at
     → (record { canvas = called .canvas; step = after } ≡ recordTaken s file at) × ((cells ≡ recordState s file at .cells) × (labels ≡ recordState s file at .labels))
-unfolding recordEnd
-taken-called s file at size called after cells labels e made c l next z =
+taken-called s file at end called after cells labels e made c l next z =
     let here = form-called s file at e in
-    let answered : stepBy (called .answer) (at + 2 + size) ≡ stepUnless (refusalOn s (recordCall file at)) (at + 2 + size) = rw (made) (answer-step s (recordCall file at) (at + 2 + size)) in
+    let answered : stepBy (called .answer) end ≡ stepUnless (refusalOn s (recordCall file at)) end = rw (made) (answer-step s (recordCall file at) end) in
     (rw (here .0, here .1, next, answered, made, z), (rw (here .1) c, rw (here .1) l))
 
 -- ---- a record in a run

@@ -3,11 +3,11 @@ use mathlib.Core.Path.{_≡_, refl, sym, _∙_, ap}
 use mathlib.Core.List.{List}
 use Prim.Native.Nat.{ℕ, zero, suc}
 use lib.ListN.{length}
-use Rattle.canvas.specs.Calls.{render}
-use Rattle.canvas.specs.Ledger.{unless}
-use Rattle.canvas.specs.Model.{State, zeroCanvas}
-use Rattle.canvas.specs.Promise.{openState}
-use Rattle.canvas.specs.Contracts.{given}
+use Rattle.ledger.specs.Calls.{render}
+use Rattle.ledger.specs.Ledger.{unless}
+use Rattle.ledger.specs.Model.{State, zeroCanvas}
+use Rattle.ledger.specs.Promise.{openState}
+use Rattle.ledger.specs.Contracts.{given}
 use Rattle.picture.specs.Records.{openingOf, openingEnd}
 use Rattle.picture.specs.Run.{stepUnless, formOrSize, openingRefusal, openedState, openingTaken, Ended, recordsFrom, ranBy, areaOf, finished, ended, pictureOf}
 use Rattle.picture.specs.declared.records.Step.the-variants as step

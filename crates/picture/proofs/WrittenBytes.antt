@@ -9,10 +9,10 @@ use Rattle.walk.specs.declared.clip.Segment.{Segment}
 use Rattle.shapes.specs.declared.painters.Pair.{Pair}
 use Rattle.shapes.specs.declared.painters.Shape.{Shape}
 use Rattle.shapes.specs.declared.painters.Shape.the-variants.{Line, FilledLine, Rectangle, Circle}
-use Rattle.canvas.specs.Calls.{Opening, Call, draw, points, dot, layer, marker, print, render}
-use Rattle.canvas.specs.Promise.{Every, nil, cons}
-use Rattle.canvas.specs.declared.labels.Choice.{Choice}
-use Rattle.canvas.specs.declared.labels.Choice.the-variants.{Nothing, Colour}
+use Rattle.ledger.specs.Calls.{Opening, Call, draw, points, dot, layer, marker, print, render}
+use Rattle.ledger.specs.Promise.{Every, nil, cons}
+use Rattle.ledger.specs.declared.labels.Choice.{Choice}
+use Rattle.ledger.specs.declared.labels.Choice.the-variants.{Nothing, Colour}
 use Rattle.picture.specs.Encoding.{bytesOf, floatBytes, segmentBytes, pairBytes, openingBytes, shapeBytes, labelBytes, recordBytes, recordsBytes, fileBytes, IsByte, Writable}
 
 -- one list after another

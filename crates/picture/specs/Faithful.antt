@@ -3,11 +3,11 @@ use mathlib.Core.Path.{_≡_}
 use mathlib.Core.List.{List, [], _∷_}
 use Prim.Native.Nat.{ℕ, _+_, _≤_}
 use lib.ListN.{length}
-use Rattle.canvas.specs.Screen.{cellOn}
-use Rattle.canvas.specs.declared.screen.ScreenCell.{ScreenCell}
-use Rattle.canvas.specs.Calls.{Opening, Call, render}
-use Rattle.canvas.specs.Ledger.{opened, Reply, refused, painted, done, shown, ledgerReplies}
-use Rattle.canvas.specs.declared.screen.Area.{Area}
+use Rattle.ledger.specs.Screen.{cellOn}
+use Rattle.ledger.specs.declared.screen.ScreenCell.{ScreenCell}
+use Rattle.ledger.specs.Calls.{Opening, Call, render}
+use Rattle.ledger.specs.Ledger.{opened, Reply, refused, painted, done, shown, ledgerReplies}
+use Rattle.ledger.specs.declared.screen.Area.{Area}
 use Rattle.picture.specs.Records.{openingOf}
 use Rattle.picture.specs.Run.{openingRefusal, pictureOf}
 use Rattle.picture.specs.Meaning.{Entries, end, broken, entry, entriesFrom, entriesOf, callsOf}

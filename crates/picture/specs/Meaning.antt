@@ -4,7 +4,7 @@ use mathlib.Core.Bool.{cond}
 use mathlib.Core.List.{List, [], _∷_}
 use lib.Dec.{ltb}
 use lib.ListN.{length}
-use Rattle.canvas.specs.Calls.{Call}
+use Rattle.ledger.specs.Calls.{Call}
 use Rattle.picture.specs.Records.{openingEnd, recordCall, recordEnd, recordForm}
 
 -- the records one after the other, each with the place of its first byte, to the end of the file or to a record that breaks the form, with its number

@@ -11,9 +11,10 @@ use Rattle.walk.specs.declared.clip.Segment.{Segment}
 use Rattle.shapes.specs.Limits.{reset}
 use Rattle.shapes.specs.declared.painters.Pair.{Pair}
 use Rattle.shapes.specs.declared.painters.Shape.the-variants.{Line, FilledLine, Rectangle, Circle}
-use Rattle.canvas.specs.Calls.{Opening, Call, draw, points, dot, layer, marker, print, first}
-use Rattle.canvas.specs.declared.labels.Choice.{Choice}
-use Rattle.canvas.specs.declared.labels.Choice.the-variants.{Nothing, Colour}
+use Rattle.ledger.specs.Calls.{Opening, Call, draw, points, dot, layer, marker, print, first}
+use Rattle.ledger.specs.declared.labels.Choice.{Choice}
+use Rattle.ledger.specs.declared.labels.Choice.the-variants.{Nothing, Colour}
+use Rattle.picture.specs.declared.records.Form.{Form}
 use Rattle.picture.specs.Fields.{numberAt, stands, placeOf, sizeBy, numberIn, numberField, floatField}
 
 -- '17 over 65,536 bytes'
@@ -209,3 +210,8 @@ recordForm file at =
     ∷ (ltb (length file) (recordEnd file at), 14)
     ∷ []
     )
+
+-- the same as the code has it, with the record's end where it is of good form
+abbrev pub formBy : ℕ → ℕ → Form
+formBy zero end = record { number = 0; end = end }
+formBy (suc number) end = record { number = suc number; end = 0 }

@@ -4,15 +4,15 @@ use mathlib.Core.Bool.{Bool, cond, _||_}
 use mathlib.Core.List.{List, [], _∷_}
 use lib.Dec.{ltb}
 use lib.ListN.{length}
-use Rattle.canvas.specs.Calls.{Opening, render, first, openRefusal}
-use Rattle.canvas.specs.Ledger.{unless}
-use Rattle.canvas.specs.Model.{State, orRefusal, refusalOn, stateAfter, zeroCanvas}
-use Rattle.canvas.specs.Promise.{openState}
-use Rattle.canvas.specs.Contracts.{given, answerOn, screenOn}
-use Rattle.canvas.specs.declared.screen.Area.{Area}
-use Rattle.canvas.specs.declared.state.Canvas.{Canvas}
-use Rattle.canvas.specs.declared.state.Answer.{Answer}
-use Rattle.canvas.specs.declared.state.Answer.the-variants as answer
+use Rattle.ledger.specs.Calls.{Opening, render, first, openRefusal}
+use Rattle.ledger.specs.Ledger.{unless}
+use Rattle.ledger.specs.Model.{State, orRefusal, refusalOn, stateAfter, zeroCanvas}
+use Rattle.ledger.specs.Promise.{openState}
+use Rattle.ledger.specs.Contracts.{given, answerOn, screenOn}
+use Rattle.ledger.specs.declared.screen.Area.{Area}
+use Rattle.ledger.specs.declared.state.Canvas.{Canvas}
+use Rattle.ledger.specs.declared.state.Answer.{Answer}
+use Rattle.ledger.specs.declared.state.Answer.the-variants as answer
 use Rattle.picture.specs.Records.{openingOf, openingEnd, openingForm, recordCall, recordEnd, recordForm}
 use Rattle.picture.specs.declared.records.Step.{Step}
 use Rattle.picture.specs.declared.records.Step.the-variants as step

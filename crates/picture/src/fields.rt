@@ -113,6 +113,15 @@ pub fn from_bits(n: u64) -> f64
     f64::from_bits(n)
 }
 
+// The float at a place, of a part that has it whole.
+pub(crate) fn float_at(part: &[u8], at: usize) -> f64
+    requires { ⌜ at + 8 ≤ length (now part) ⌝ }
+    ensures { λ r. ⌜ r ≡ bits (numberAt (now (part .entry)) at 8) ⌝ }
+{
+    let n = little64(part, at);
+    from_bits(n)
+}
+
 // Whether the bit of this weight stands in a map.
 pub(crate) fn has(map: u8, weight: u8) -> bool
     ensures { λ r. ⌜ (1 ≤ weight → r ≡ stands map weight) ⌝ }

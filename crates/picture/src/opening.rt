@@ -12,7 +12,7 @@ use walk::clip::Bounds;
 ghost use mathlib.Core.Path.{_≡_};
 ghost use Prim.Native.Nat.{_≤_};
 ghost use lib.ListN.{length};
-ghost use Rattle.canvas.specs.Model.{zeroCanvas};
+ghost use Rattle.ledger.specs.Model.{zeroCanvas};
 ghost use Rattle.picture.specs.Fields.{sizeBy};
 ghost use Rattle.picture.specs.Records.{openingWidths, openingFrom};
 ghost use Rattle.picture.specs.Run.{openedState, openingTaken};

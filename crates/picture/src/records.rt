@@ -1,38 +1,45 @@
 // A record's form, and the call that it stands for: the fields are read from the part of the file
 // that begins with the record's first field.
 use crate::fields::byte_field;
-use crate::fields::from_bits;
+use crate::fields::float_at;
 use crate::fields::has;
 use crate::fields::number_field;
 use crate::fields::number8;
 use crate::fields::number16;
 use crate::fields::number32;
-use crate::fields::number64;
 use crate::fields::real_field;
 use canvas::calls::dot;
 use canvas::calls::draw;
+use canvas::calls::drawn;
 use canvas::calls::layer;
 use canvas::calls::marker;
+use canvas::calls::painter_for;
+use canvas::calls::points_refusal;
 use canvas::calls::print;
-use canvas::labels::Choice;
-use canvas::state::Answer;
-use canvas::state::Called;
-use canvas::state::Canvas;
-use pairs::points::points;
+use canvas::calls::refused;
+use ledger::labels::Choice;
+use ledger::state::Answer;
+use ledger::state::Called;
+use ledger::state::Canvas;
+use limits::state::is_bad_point;
+use pairs::points::paint_pairs;
+use shapes::painters::Painter;
 use shapes::painters::Pair;
 use shapes::painters::Shape;
 use walk::clip::Segment;
 ghost use mathlib.Core.Path.{_≡_};
 ghost use mathlib.Core.Bool.{cond};
 ghost use mathlib.Core.List.{List};
-ghost use Prim.Native.Nat.{ℕ, _+_, _*_, _≤_, _<_, _^_};
+ghost use Prim.Native.Nat.{ℕ, _+_, _-_, _*_, _≤_, _<_, _^_, min};
 ghost use lib.ListN.{length, take};
-ghost use Rattle.canvas.specs.Calls.{Call, draw, points};
-ghost use Rattle.canvas.specs.Model.{stateAfter};
-ghost use Rattle.canvas.specs.Contracts.{given, calledOn};
+ghost use Rattle.shapes.specs.Shapes.{pairDots};
+ghost use Rattle.shapes.specs.Drawing.{paintedBy};
+ghost use Rattle.ledger.specs.Calls.{Call, badPairs, draw};
+ghost use Rattle.ledger.specs.Model.{stateAfter};
+ghost use Rattle.ledger.specs.Contracts.{given, calledOn};
 ghost use Rattle.picture.specs.Fields.{numberAt, stands, widthIn, placeOf, sizeBy, floatField};
 ghost use Rattle.picture.specs.Run.{stepBy, recordState, recordTaken};
-ghost use Rattle.picture.specs.Records.{maxFile, lineWidths, filledLineWidths, circleWidths, pointsWidths, markerWidths, labelWidths, dotWidths, textPlace, widthsOf, segmentFields, colourField, lineCall, filledLineCall, rectangleCall, circleCall, pairAt, pairsAt, pairCount, pointsCall, markerCall, labelColour, labelText, labelCall, dotCall, callOf, kindAt, mapAt, partAt, recordEnd, recordForm};
+ghost use Rattle.picture.specs.Records.{maxFile, lineWidths, filledLineWidths, circleWidths, pointsWidths, markerWidths, labelWidths, dotWidths, textPlace, widthsOf, segmentFields, colourField, lineCall, filledLineCall, rectangleCall, circleCall, pairAt, pairsAt, pairCount, pointsCall, markerCall, labelColour, labelText, labelCall, dotCall, callOf, kindAt, mapAt, partAt, recordEnd, recordForm, formBy};
 
 // The next place in the file, or the refusal with document 01's number.
 pub enum Step {
@@ -203,34 +210,50 @@ fn map_end(kind: u8) -> u8
     1
 }
 
-// A record's refusal by the form of its bytes: 17, 14, 15, 16, 14, or 0.
-pub fn record_form(file: &[u8], at: usize) -> u8
-    ensures { λ r. ⌜ r ≡ recordForm (now (file .entry)) at ⌝ }
+// A record's refusal by the form of its bytes, or 0; with 0 the place after the record, so that the
+// size of its fields is worked out once.
+pub struct Form {
+    pub number: u8,
+    pub end: usize,
+}
+
+fn bad_form(number: u8) -> Form
+    ensures { λ r. ⌜ r ≡ record { number = number; end = 0 } ⌝ }
+{
+    Form { number, end: 0 }
+}
+
+// A record's form: 17, 14, 15, 16, 14, or 0 with the record's end.
+pub fn record_form(file: &[u8], at: usize) -> Form
+    ensures { λ r. ⌜ r ≡ formBy (recordForm (now (file .entry)) at) (recordEnd (now (file .entry)) at) ⌝ }
 {
     if file.len() > 65536 {
-        return 17;
+        return bad_form(17);
     }
     if at > 65536 {
-        return 14;
+        return bad_form(14);
     }
     let first = at + 2;
     if file.len() < first {
-        return 14;
+        return bad_form(14);
     }
     let kind = file[at];
     let map = file[at + 1];
     if (kind < 1) | (kind > 9) {
-        return 15;
+        return bad_form(15);
     }
     let end = map_end(kind);
     if map >= end {
-        return 16;
+        return bad_form(16);
     }
     let size = fields_size(kind, map, &file[first..]);
     if file.len() - first < size {
-        return 14;
+        return bad_form(14);
     }
-    0
+    Form {
+        number: 0,
+        end: first + size,
+    }
 }
 
 // ---- the call that a record stands for
@@ -241,9 +264,30 @@ struct Drawing {
     colour: u32,
 }
 
+// A line with all its fields, which then have fixed places: most lines are so.
+fn whole_line(part: &[u8]) -> Drawing
+    requires { ⌜ 36 ≤ length (now part) ⌝ }
+    ensures { λ r. ⌜ draw (r .shape) (r .colour) ≡ lineCall 31 (now (part .entry)) ⌝ }
+{
+    let x1 = float_at(part, 0);
+    let y1 = float_at(part, 8);
+    let x2 = float_at(part, 16);
+    let y2 = float_at(part, 24);
+    let colour = number32(part, 32);
+    Drawing {
+        shape: Shape::Line(Segment { x1, y1, x2, y2 }),
+        colour,
+    }
+}
+
 fn line_of(map: u8, part: &[u8]) -> Drawing
     ensures { λ r. ⌜ draw (r .shape) (r .colour) ≡ lineCall map (now (part .entry)) ⌝ }
 {
+    if map == 31 {
+        if part.len() >= 36 {
+            return whole_line(part);
+        }
+    }
     let x1 = real_field(part, 0, map, 1);
     let y1 = real_field(part, x1.end, map, 2);
     let x2 = real_field(part, y1.end, map, 4);
@@ -324,15 +368,13 @@ fn drawing_of(kind: u8, map: u8, part: &[u8]) -> Drawing
     circle_of(map, part)
 }
 
-// The pair at a place.
+// The pair at a place, of a part that has it whole.
 fn pair_at(part: &[u8], at: usize) -> Pair
-    requires { ⌜ at + 16 < 2 ^ 32 ⌝ }
+    requires { ⌜ at + 16 ≤ length (now part) ⌝ }
     ensures { λ r. ⌜ r ≡ pairAt (now (part .entry)) at ⌝ }
 {
-    let first = number64(part, at);
-    let second = number64(part, at + 8);
-    let x = from_bits(first);
-    let y = from_bits(second);
+    let x = float_at(part, at);
+    let y = float_at(part, at + 8);
     Pair { x, y }
 }
 
@@ -355,48 +397,87 @@ fn list_end(map: u8, part: &[u8]) -> usize
     after(0, map, 1, 2 + 16 * n)
 }
 
-// The pairs after the count, at the start of a list that holds as many as a file can have.
-fn read_pairs(part: &[u8], count: usize) -> [Pair; 4096]
-    requires { ⌜ count ≤ 4096 ⌝ }
-    ensures { λ r. ⌜ take count r ≡ pairsAt (now (part .entry)) 2 count ⌝ }
+// Whether a pair after the count has a number outside the domain. All are looked through before the
+// first is painted, since a call that is refused paints nothing.
+fn is_bad_list(part: &[u8], count: usize) -> bool
+    requires { ⌜ 16 * count ≤ length (now part) - 2 ⌝ }
+    ensures { λ r. ⌜ r ≡ badPairs (pairsAt (now (part .entry)) 2 count) ⌝ }
 {
-    let mut pairs = [Pair { x: 0.0, y: 0.0 }; 4096];
     let mut i: usize = 0;
     while i < count {
-        pairs[i] = pair_at(part, 2 + 16 * i);
+        let pair = pair_at(part, 2 + 16 * i);
+        if is_bad_point(pair.x, pair.y) {
+            return true;
+        }
+        i += 1;
+    }
+    false
+}
+
+// Sixteen pairs or fewer, from one of the list on.
+fn read_pairs(part: &[u8], from: usize, count: usize) -> [Pair; 16]
+    requires { ⌜ (count ≤ 16) × (16 * (from + count) ≤ length (now part) - 2) ⌝ }
+    ensures { λ r. ⌜ take count r ≡ pairsAt (now (part .entry)) (2 + 16 * from) count ⌝ }
+{
+    let mut pairs = [Pair { x: 0.0, y: 0.0 }; 16];
+    let start = 2 + 16 * from;
+    let mut i: usize = 0;
+    while i < count {
+        pairs[i] = pair_at(part, start + 16 * i);
         i += 1;
     }
     pairs
 }
 
-// Points with the first pairs of a list of this call's own, lent: nothing else is touched if the
-// call is refused.
-fn draw_pairs(
-    canvas: Canvas,
-    cells: &mut [u32],
-    labels: &[u32],
-    pairs: [Pair; 4096],
-    count: usize,
-    colour: u32,
-) -> Called
-    requires { ⌜ count ≤ 4096 ⌝ }
-    ensures { λ r. ⌜ (r ≡ calledOn (given canvas (now (cells .entry)) (now (labels .entry))) (points (take count pairs) colour))
-        × (now (cells .exit) ≡ stateAfter (given canvas (now (cells .entry)) (now (labels .entry))) (points (take count pairs) colour) .cells) ⌝ }
+// The points of the first pairs of an array, which is lent.
+fn paint_first(cells: &mut [u32], p: Painter, pairs: [Pair; 16], count: usize) -> u64
+    requires { ⌜ count ≤ 16 ⌝ }
+    ensures { λ r. ⌜ (r ≡ length (pairDots (p .view) (take count pairs))) × (now (cells .exit) ≡ paintedBy p (now (cells .entry)) (pairDots (p .view) (take count pairs))) ⌝ }
 {
-    points(canvas, &mut *cells, labels, &pairs[..count], colour)
+    paint_pairs(&mut *cells, p, &pairs[..count])
 }
 
-// A points record.
+// At most sixteen.
+fn sixteen(n: usize) -> usize
+    ensures { λ r. ⌜ r ≡ min n 16 ⌝ }
+{
+    if n < 16 { n } else { 16 }
+}
+
+// The points of a list, sixteen pairs at a time: an array for the longest list would be cleared for
+// each record, however short.
+fn paint_list(cells: &mut [u32], p: Painter, part: &[u8], count: usize) -> u64
+    requires { ⌜ (16 * count ≤ length (now part) - 2) × (count ≤ 4096) ⌝ }
+    ensures { λ r. ⌜ (r ≡ length (pairDots (p .view) (pairsAt (now (part .entry)) 2 count))) × (now (cells .exit) ≡ paintedBy p (now (cells .entry)) (pairDots (p .view) (pairsAt (now (part .entry)) 2 count))) ⌝ }
+{
+    let mut painted: u64 = 0;
+    let mut i: usize = 0;
+    while i < count {
+        let n = sixteen(count - i);
+        let pairs = read_pairs(part, i, n);
+        painted += paint_first(&mut *cells, p, pairs, n);
+        i += n;
+    }
+    painted
+}
+
+// A points record: what the call `points` does, of the pairs in the bytes.
 fn points_call(map: u8, part: &[u8], canvas: Canvas, cells: &mut [u32], labels: &[u32]) -> Called
-    requires { ⌜ pairCount map (now part) ≤ 4096 ⌝ }
+    requires { ⌜ (16 * pairCount map (now part) ≤ length (now part) - 2) × (pairCount map (now part) ≤ 4096) ⌝ }
     ensures { λ r. ⌜ (r ≡ calledOn (given canvas (now (cells .entry)) (now (labels .entry))) (pointsCall map (now (part .entry))))
         × (now (cells .exit) ≡ stateAfter (given canvas (now (cells .entry)) (now (labels .entry))) (pointsCall map (now (part .entry))) .cells) ⌝ }
 {
     let count = pair_count(map, part);
     let at = list_end(map, part);
     let colour = number_field(part, at, map, 2, 16777216);
-    let pairs = read_pairs(part, count);
-    draw_pairs(canvas, &mut *cells, labels, pairs, count, colour.value)
+    let bad = is_bad_list(part, count);
+    let n = points_refusal(canvas, cells.len(), labels.len(), bad, count, colour.value);
+    if n != 0 {
+        return refused(canvas, n);
+    }
+    let p = painter_for(canvas, colour.value);
+    let painted = paint_list(&mut *cells, p, part, count);
+    drawn(canvas, painted)
 }
 
 fn marker_call(map: u8, part: &[u8], canvas: Canvas, cells: &mut [u32], labels: &[u32]) -> Called
@@ -545,7 +626,8 @@ pub fn take_record(
         × ((now (cells .exit) ≡ recordState (given canvas (now (cells .entry)) (now (labels .entry))) (now (file .entry)) at .cells)
         × (now (labels .exit) ≡ recordState (given canvas (now (cells .entry)) (now (labels .entry))) (now (file .entry)) at .labels)) ⌝ }
 {
-    let number = record_form(file, at);
+    let form = record_form(file, at);
+    let number = form.number;
     if number != 0 {
         return Taken {
             canvas,
@@ -555,10 +637,9 @@ pub fn take_record(
     let first = at + 2;
     let kind = file[at];
     let map = file[at + 1];
-    let size = fields_size(kind, map, &file[first..]);
     let called = record_call(kind, map, &file[first..], canvas, &mut *cells, &mut *labels);
     let answer = called.answer;
-    let step = step_of(answer, first + size);
+    let step = step_of(answer, form.end);
     let after_it = called.canvas;
     Taken {
         canvas: after_it,

@@ -3,11 +3,11 @@ use crate::opening::open_picture;
 use crate::records::Step;
 use crate::records::take_record;
 use canvas::calls::render;
-use canvas::screen::Area;
-use canvas::state::Answer;
-use canvas::state::Canvas;
+use ledger::screen::Area;
+use ledger::state::Answer;
+use ledger::state::Canvas;
 ghost use mathlib.Core.Path.{_≡_};
-ghost use Rattle.canvas.specs.Contracts.{given};
+ghost use Rattle.ledger.specs.Contracts.{given};
 ghost use Rattle.picture.specs.Run.{drawnOf, recordsFrom, ranBy, finished, pictureOf};
 
 // Where the records end: at the file's end, or at a refusal with its number and the place of the

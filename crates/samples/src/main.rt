@@ -1,7 +1,6 @@
 // Document 01's bench samples: the starred ones are a statement in specs/ and proved; the others are
 // run here, with the refusals that no picture file reaches, and what is printed is held to the file
 // stdout.
-use canvas::calls::Pointed;
 use canvas::calls::dot;
 use canvas::calls::draw;
 use canvas::calls::get_point;
@@ -9,11 +8,12 @@ use canvas::calls::open;
 use canvas::calls::print;
 use canvas::calls::render;
 use canvas::calls::zero_canvas;
-use canvas::labels::Choice;
-use canvas::screen::Area;
-use canvas::state::Answer;
-use canvas::state::Called;
-use canvas::state::Canvas;
+use ledger::labels::Choice;
+use ledger::screen::Area;
+use ledger::state::Answer;
+use ledger::state::Called;
+use ledger::state::Canvas;
+use ledger::state::Pointed;
 use shapes::painters::Shape;
 use walk::clip::Bounds;
 use walk::clip::Segment;

@@ -1,33 +1,73 @@
--- Each way out of `point`, `label_place` and `view_of`, over plain values, and that the dots of a view of 16-bit sizes are of 16 bits.
-use Prim.Native.Nat.{ℕ, _*_, _%_, _^_, _≤_, _<_}
-use mathlib.Core.Path.{_≡_}
+-- Each way out of `scaled`, `spot`, `point`, `label_place` and `view_of`, over plain values, and that the dots of a view of 16-bit sizes are of 16 bits.
+use Prim.Native.Nat.{ℕ, _-_, _*_, _%_, _^_, _≤_, _<_, min}
+use mathlib.Core.Path.{_≡_, refl}
 use mathlib.Core.Bool.{Bool, true, false, _||_}
 use native.Mathlib.Nat.{mul-le-mul}
 use native.Mathlib.Omega.{arith}
-use lib.Ieee.{Float}
-use Rattle.floats.specs.Arithmetic.{_⊖_}
+use lib.Ieee.{Float, lt, le, toUnsigned}
+use Rattle.floats.specs.Arithmetic.{_⊕_, _⊖_, _⊗_, _⊘_}
+use Rattle.floats.specs.Polyfills.{0·5, 1·0}
+use Rattle.floats.proofs.Truncation.{unsigned-is}
+use Rattle.floats.proofs.HalfAdded.{half-low, half-below, half-from}
 use Rattle.walk.specs.declared.clip.Bounds.{Bounds}
 use Rattle.grids.specs.Markers.{dotColumns, dotRows, resolutionOf}
 use Rattle.grids.specs.declared.markers.Size.{Size}
 use Rattle.grids.proofs.Cases.{either}
 use Rattle.grids.proofs.DotSizes.{dot-size-le}
 use Rattle.shapes.specs.Limits.{maxColumns, maxRows}
-use Rattle.shapes.specs.Point.{outsideBounds, flatBounds, insideBounds, scaledOf, truncatedOf, pointOf, labelPlace, viewOf}
+use Rattle.shapes.specs.Point.{whole, outsideBounds, flatBounds, insideBounds, scaledOf, truncatedOf, pointOf, labelPlace, viewOf, frameOf, scaledBy, spotOf}
 use Rattle.shapes.specs.declared.point.View.{View}
+use Rattle.shapes.specs.declared.point.Frame.{Frame}
 use Rattle.shapes.specs.declared.point.Found.{Found}
 use Rattle.shapes.specs.declared.point.Found.the-variants.{At, Nowhere}
 
--- ---- a point's dot
-module _ (v : View) (x y : Float) {outside flat : Bool} (out : outside ≡ outsideBounds (v .bounds) x y) (even : flat ≡ flatBounds (v .bounds)) where
-  pub point-nowhere : outside || flat ≡ true → Nowhere ≡ pointOf v x y
-  unfolding pointOf
-  point-nowhere t = rw (← out, ← even, t)
+-- ---- a distance in dots, from the sum with a half
+module _ (distance steps : Float) (dots : ℕ) (width : Float) where
+  abbrev halfAdded : Float
+  halfAdded = distance ⊗ steps ⊘ width ⊕ 0·5
 
-  pub point-at : {column row : ℕ} → outside || flat ≡ false
-      → column ≡ scaledOf (x ⊖ v .bounds .left) (v .width) (v .bounds .right ⊖ v .bounds .left)
-      → row ≡ scaledOf (v .bounds .top ⊖ y) (v .height) (v .bounds .top ⊖ v .bounds .bottom) → At column row ≡ pointOf v x y
-  unfolding pointOf
-  point-at t c r = rw (← out, ← even, t, c, r)
+  pub scaled-low : le 1·0 halfAdded ≡ false → 0 ≡ scaledBy distance steps dots width
+  unfolding scaledBy
+  scaled-low h = least _ (dots - 1) (half-low _ h)
+    where
+      least : (k n : ℕ) → k ≡ 0 → 0 ≡ min k n
+      least k n e = omega arith
+
+  module _ (small : dots < 2 ^ 16) (some : le 1·0 halfAdded ≡ true) where
+    pub scaled-below : lt halfAdded (whole dots) ≡ true → (toUnsigned 64 halfAdded ≡ scaledBy distance steps dots width) × (toUnsigned 64 halfAdded < 2 ^ 16)
+    unfolding scaledBy
+    scaled-below h = let b = half-below _ dots small some h in cut _ _ _ (unsigned-is 64 halfAdded) (b .0) (b .1)
+      where
+        cut : (r k u : ℕ) → r ≡ u → k ≡ u → u < dots → (r ≡ min k (dots - 1)) × (r < 2 ^ 16)
+        cut r k u e f l = (omega arith, omega arith)
+
+    pub scaled-top : lt halfAdded (whole dots) ≡ false → dots - 1 ≡ scaledBy distance steps dots width
+    unfolding scaledBy
+    scaled-top h = most _ (half-from _ dots small some h)
+      where
+        most : (k : ℕ) → dots ≤ k → dots - 1 ≡ min k (dots - 1)
+        most k l = omega arith
+
+-- ---- a point's dot
+module _ (f : Frame) (x y : Float) {outside : Bool} (out : outside ≡ outsideBounds (f .view .bounds) x y) where
+  pub spot-nowhere : outside || f .flat ≡ true → Nowhere ≡ spotOf f x y
+  unfolding spotOf
+  spot-nowhere t = rw (← out, t)
+
+  pub spot-at : {column row : ℕ} → outside || f .flat ≡ false
+      → column ≡ scaledBy (x ⊖ f .view .bounds .left) (f .across) (f .view .width) (f .width)
+      → row ≡ scaledBy (f .view .bounds .top ⊖ y) (f .down) (f .view .height) (f .height) → At column row ≡ spotOf f x y
+  unfolding spotOf
+  spot-at t c r = rw (← out, t, c, r)
+
+pub frame-is : (v : View) (flat : Bool) → flat ≡ flatBounds (v .bounds)
+    → record { view = v; width = v .bounds .right ⊖ v .bounds .left; height = v .bounds .top ⊖ v .bounds .bottom; across = whole (v .width) ⊖ 1·0; down = whole (v .height) ⊖ 1·0; flat = flat } ≡ frameOf v
+unfolding frameOf
+frame-is v flat e = rw e
+
+pub spot-point : (v : View) (x y : Float) → spotOf (frameOf v) x y ≡ pointOf v x y
+unfolding frameOf spotOf scaledBy scaledOf pointOf
+spot-point v x y = refl
 
 -- ---- a label's place
 module _ (b : Bounds) (columns rows : ℕ) (x y : Float) {inside : Bool} (in-bounds : inside ≡ insideBounds b x y) where

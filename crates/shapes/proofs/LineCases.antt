@@ -1,6 +1,6 @@
 -- Each way out of `paint_line` and `paint_filled_line`, over plain values, and that a line has at most 65536 dots.
 use Prim.Native.Nat.{ℕ, _+_, _^_, _≤_, _<_, max}
-use mathlib.Core.Path.{_≡_}
+use mathlib.Core.Path.{_≡_, sym, _∙_}
 use mathlib.Core.List.{List, [], _++_}
 use native.Mathlib.Omega.{arith}
 use lib.Ieee.{Float}
@@ -14,17 +14,22 @@ use Rattle.walk.specs.declared.bresenham.Ends.{Ends}
 use Rattle.walk.specs.Clip.{clipOf}
 use Rattle.walk.specs.Line.{apart, lineDots}
 use Rattle.walk.proofs.LineDots.{length-line}
-use Rattle.shapes.specs.Point.{pointOf}
+use Rattle.shapes.specs.Point.{pointOf, frameOf, spotOf}
 use Rattle.shapes.specs.Shapes.{flat, columnTo, dotsBetween, clippedLine, linePoints, filledPoints, segment, rectanglePoints}
 use Rattle.shapes.specs.declared.point.View.{View}
+use Rattle.shapes.specs.declared.point.Frame.{Frame}
 use Rattle.shapes.specs.declared.point.Found.{Found}
 use Rattle.shapes.specs.declared.point.Found.the-variants.{At, Nowhere}
 use Rattle.shapes.specs.declared.painters.Painter.{Painter}
-use Rattle.shapes.proofs.DotPlaces.{Fits, point-fits}
+use Rattle.shapes.proofs.DotPlaces.{Fits, point-fits, spot-point}
 use Rattle.shapes.proofs.PaintLists.{Painted, painted-then}
 
 abbrev pub ends : ℕ → ℕ → ℕ → ℕ → Ends
 ends x1 y1 x2 y2 = record { x1 = x1; y1 = y1; x2 = x2; y2 = y2 }
+
+-- ---- what `spot` found in the view's frame is the point's dot
+pub found-is : (v : View) (frame : Frame) (x y : Float) {r found : Found} → frame ≡ frameOf v → r ≡ spotOf frame x y → r ≡ found → pointOf v x y ≡ found
+found-is v frame x y e s g = rw (← spot-point v x y, ← e) (sym s ∙ g)
 
 -- ---- nothing is left of the line
 module _ (v : View) (s : Segment) {n : ℕ} (clipped : clipOf (v .bounds) s ≡ NoLine n) where

@@ -1,5 +1,5 @@
--- Lists of dots painted one after the other: a list in two parts, one more dot of a walk, of a column, of a circle and of pairs, and how many dots there are.
-use Prim.Native.Nat.{ℕ, _+_, _-_, _≤_, _<_, min, max}
+-- Lists of dots painted one after the other: a list in two parts, one more dot of a list by numbers, of a circle and of pairs, and how many dots there are.
+use Prim.Native.Nat.{ℕ, _+_, _-_, _*_, _^_, _≤_, _<_, min, max}
 use mathlib.Core.Path.{_≡_, refl, sym, ap}
 use mathlib.Core.List.{List, [], _∷_, _++_, append-assoc, append-nil}
 use native.Mathlib.Numerals.{add-one}
@@ -7,25 +7,25 @@ use native.Mathlib.Omega.{arith}
 use lib.Ieee.{Float}
 use lib.ListN.{length, length-append, take, getD}
 use lib.Seq.{take-suc}
-use Rattle.floats.specs.Methods.{toRadiansOf}
-use Rattle.floats.specs.Polyfills.{mulAddOf, sinOf, cosOf}
+use Rattle.floats.specs.Polyfills.{mulAddOf}
+use Rattle.angles.specs.Angles.{angleTable}
+use Rattle.angles.proofs.AnglePlaces.{angle-cos, angle-sin}
 use Rattle.walk.specs.Tabulate.{tabulate}
-use Rattle.walk.specs.Line.{apart, lineDots}
-use Rattle.walk.specs.Walk.{walkOf, countOf, dotOf, stepOf, steps, walkDots, Fits16}
-use Rattle.walk.specs.declared.bresenham.Ends.{Ends}
+use Rattle.walk.specs.Line.{apart}
 use Rattle.walk.specs.declared.bresenham.Dot.{Dot}
-use Rattle.walk.specs.declared.bresenham.Walk.{Walk}
 use Rattle.walk.proofs.Tabulated.{length-tabulate}
-use Rattle.walk.proofs.ClosedFormula.{walks-line}
+use Rattle.columns.specs.Columns.{columnDots}
 use Rattle.grids.proofs.Words.{foldl-append}
-use Rattle.shapes.specs.Point.{whole, pointOf}
+use Rattle.shapes.specs.Point.{pointOf, frameOf, spotOf}
 use Rattle.shapes.specs.Shapes.{flat, dotAt, pointDots, columnTo, anglePoint, angles, circlePoints, pairDots}
 use Rattle.shapes.specs.Drawing.{paintedBy}
 use Rattle.shapes.specs.declared.painters.Pair.{Pair}
 use Rattle.shapes.specs.declared.point.View.{View}
+use Rattle.shapes.specs.declared.point.Frame.{Frame}
 use Rattle.shapes.specs.declared.point.Found.{Found}
 use Rattle.shapes.specs.declared.point.Found.the-variants.{At, Nowhere}
 use Rattle.shapes.specs.declared.painters.Painter.{Painter}
+use Rattle.shapes.proofs.DotPlaces.{spot-point}
 
 -- the dots, of which there are n, painted over `before` give `after`
 abbrev pub Painted : Painter → List ℕ → List Dot → ℕ → List ℕ → Type 0
@@ -39,7 +39,7 @@ painted-then p before between after xs ys m n f g = (
   rw foldl-append (rw (f .1) at (g .1)),
 )
 
--- ---- one more dot of a list by numbers, which the walk and the column are
+-- ---- one more dot of a list by numbers
 pub painted-next : (p : Painter) (f : ℕ → Dot) (before between after : List ℕ) (k : ℕ) (d : Dot)
     → d ≡ f k → Painted p before (tabulate k f) k between → after ≡ paintedBy p between (d ∷ []) → Painted p before (tabulate (k + 1) f) (k + 1) after
 painted-next p f before between after k d e g h =
@@ -53,29 +53,24 @@ flat-append f (x ∷ xs) ys = rw (flat-append f xs ys, append-assoc)
 pub flat-next : {A B : Type 0} (f : A → List B) (xs : List A) (x : A) → flat f (xs ++ (x ∷ [])) ≡ flat f xs ++ f x
 flat-next f xs x = rw (flat-append f xs (x ∷ []), append-nil)
 
--- ---- along a walk
-pub next-step : (w₀ w after : Walk) (k : ℕ) → w ≡ steps k w₀ → after ≡ stepOf w → after ≡ steps (k + 1) w₀
-next-step w₀ w after k e s = rw (add-one, s, e)
-
-pub walk-over : (e : Ends) → Fits16 e → (w₀ : Walk) (n k : ℕ) → w₀ ≡ walkOf e → n ≡ countOf w₀ → k ≡ n → walkDots w₀ k ≡ lineDots e
-walk-over e f w₀ n k w c h = rw (h, c, w) (walks-line e f .1)
-
--- the column from each dot, after one dot more
-pub fill-next : (p : Painter) (f : Dot → List Dot) (before between after : List ℕ) (w₀ w : Walk) (k m n : ℕ) (d : Dot) → w ≡ steps k w₀ → d ≡ dotOf w
-    → Painted p before (flat f (walkDots w₀ k)) m between → Painted p between (f d) n after → Painted p before (flat f (walkDots w₀ (k + 1))) (m + n) after
-fill-next p f before between after w₀ w k m n d s e g h =
-    rw (add-one, flat-next f (walkDots w₀ k) (dotOf (steps k w₀)))
-    (painted-then p before between after (flat f (walkDots w₀ k)) (f (dotOf (steps k w₀))) m n g (rw (e, s) at h))
-
 -- ---- a column from its lower row
-pub column-over : (column row fill low high n k : ℕ) → low ≡ min row fill → high ≡ max row fill → n ≡ high - low + 1 → k ≡ n
-    → tabulate k (λ i. dotAt column (low + i)) ≡ columnTo fill (dotAt column row)
-column-over column row fill low high n k l h e g =
-    let a : k ≡ apart row fill + 1 = omega arith in
+column-over : (column row fill low high : ℕ) → low ≡ min row fill → high ≡ max row fill → columnDots column low (high + 1 - low) ≡ columnTo fill (dotAt column row)
+column-over column row fill low high l h =
+    let a : high + 1 - low ≡ apart row fill + 1 = omega arith in
     rw a (ap (λ (m : ℕ). tabulate (apart row fill + 1) (λ i. dotAt column (m + i))) l)
 
-pub length-column : (fill : ℕ) (d : Dot) → length (columnTo fill d) ≡ apart (d .row) fill + 1
+length-column : (fill : ℕ) (d : Dot) → length (columnTo fill d) ≡ apart (d .row) fill + 1
 length-column fill d = length-tabulate (apart (d .row) fill + 1) (λ k. dotAt (d .column) (min (d .row) fill + k))
+
+pub column-le : (fill : ℕ) (d : Dot) (n : ℕ) → n ≡ length (columnTo fill d) → fill < 2 ^ 32 → d .row < 2 ^ 32 → n ≤ 2 ^ 32
+column-le fill d n e f r = omega (arith, length-column fill d)
+
+pub painted-column : (p : Painter) (before after : List ℕ) (column row fill low high : ℕ) → low ≡ min row fill → high ≡ max row fill
+    → after ≡ paintedBy p before (columnDots column low (high + 1 - low)) → Painted p before (columnTo fill (dotAt column row)) (high - low + 1) after
+painted-column p before after column row fill low high l h g = (
+  omega (arith, length-column fill (dotAt column row)),
+  rw (column-over column row fill low high l h) at g,
+)
 
 -- ---- the same dots by another name
 pub painted-same : (p : Painter) (before after : List ℕ) (xs ys : List Dot) (m n : ℕ) → xs ≡ ys → m ≡ n → Painted p before xs m after → Painted p before ys n after
@@ -86,12 +81,14 @@ pub point-le : (f : Found) (n : ℕ) → n ≡ length (pointDots f) → n ≤ 1
 point-le (At column row) n e = omega arith
 point-le Nowhere n e = omega arith
 
-pub angle-next : (p : Painter) (x y radius : Float) (before between after : List ℕ) (k m n : ℕ) (u v : Float)
-    → u ≡ mulAddOf radius (cosOf (toRadiansOf (whole k))) x → v ≡ mulAddOf radius (sinOf (toRadiansOf (whole k))) y
-    → Painted p before (angles (p .view) x y radius k) m between → Painted p between (pointDots (pointOf (p .view) u v)) n after
+pub angle-next : (p : Painter) (x y radius : Float) (before between after : List ℕ) (k m n : ℕ) (t : List Float) (frame : Frame) (d u v : Float) (f : Found)
+    → t ≡ angleTable → k < 360 → u ≡ mulAddOf radius (getD t (k * 2) d) x → v ≡ mulAddOf radius (getD t (k * 2 + 1) d) y → frame ≡ frameOf (p .view) → f ≡ spotOf frame u v
+    → Painted p before (angles (p .view) x y radius k) m between → Painted p between (pointDots f) n after
     → Painted p before (angles (p .view) x y radius (k + 1)) (m + n) after
-angle-next p x y radius before between after k m n u v e f g h =
-    rw add-one (painted-then p before between after (angles (p .view) x y radius k) (pointDots (anglePoint (p .view) x y radius k)) m n g (rw (e, f) at h))
+angle-next p x y radius before between after k m n t frame d u v f a l e g b i h w =
+    rw add-one
+    (painted-then p before between after (angles (p .view) x y radius k) (pointDots (anglePoint (p .view) x y radius k)) m n h
+    (rw (i, b, spot-point, e, g, a, angle-cos k d l, angle-sin k d l) at w))
 
 pub circle-over : (v : View) (x y radius : Float) (k : ℕ) → k ≡ 360 → angles v x y radius k ≡ circlePoints v x y radius
 unfolding circlePoints

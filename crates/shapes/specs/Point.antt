@@ -10,6 +10,7 @@ use Rattle.floats.specs.Polyfills.{roundOf, 1·0}
 use Rattle.walk.specs.declared.clip.Bounds.{Bounds}
 use Rattle.grids.specs.Markers.{resolutionOf}
 use Rattle.shapes.specs.declared.point.View.{View}
+use Rattle.shapes.specs.declared.point.Frame.{Frame}
 use Rattle.shapes.specs.declared.point.Found.{Found}
 use Rattle.shapes.specs.declared.point.Found.the-variants.{At, Nowhere}
 
@@ -32,6 +33,25 @@ unfoldable pub pointOf : View → Float → Float → Found
 pointOf v x y =
     cond (outsideBounds (v .bounds) x y || flatBounds (v .bounds)) Nowhere
     (At (scaledOf (x ⊖ v .bounds .left) (v .width) (v .bounds .right ⊖ v .bounds .left)) (scaledOf (v .bounds .top ⊖ y) (v .height) (v .bounds .top ⊖ v .bounds .bottom)))
+
+-- the same by a frame, which has the parts of the formula that no point changes
+unfoldable pub frameOf : View → Frame
+frameOf v = record {
+  view = v;
+  width = v .bounds .right ⊖ v .bounds .left;
+  height = v .bounds .top ⊖ v .bounds .bottom;
+  across = whole (v .width) ⊖ 1·0;
+  down = whole (v .height) ⊖ 1·0;
+  flat = flatBounds (v .bounds);
+}
+
+unfoldable pub scaledBy : Float → Float → ℕ → Float → ℕ
+scaledBy distance steps dots width = min (asUnsigned 64 (roundOf (distance ⊗ steps ⊘ width))) (dots - 1)
+
+unfoldable pub spotOf : Frame → Float → Float → Found
+spotOf f x y =
+    cond (outsideBounds (f .view .bounds) x y || f .flat) Nowhere
+    (At (scaledBy (x ⊖ f .view .bounds .left) (f .across) (f .view .width) (f .width)) (scaledBy (f .view .bounds .top ⊖ y) (f .down) (f .view .height) (f .height)))
 
 -- 'A label within the inclusive bounds goes to truncated (not rounded) columns and rows, by the formula in `render`':
 -- `((label.x - left) * resolution.0 / width) as u16`, with width `(x_bounds[1] - x_bounds[0]).abs()` and resolution.0 `f64::from(canvas_area.width - 1)`

@@ -2,22 +2,33 @@
 // definition in specs/ and gives their number.
 use crate::point::Found;
 use crate::point::View;
+use crate::point::frame_of;
 use crate::point::point;
+use crate::point::spot;
+use angles::angle_table;
+use columns::paint_rows;
 use floats::methods::clamp;
-use floats::methods::to_radians;
-use floats::polyfills::cos;
 use floats::polyfills::mul_add;
-use floats::polyfills::sin;
+use grids::painting::cells_held;
+use grids::painting::flat_index;
 use grids::painting::paint;
+use grids::painting::paint_braille;
+use grids::painting::paint_plain;
 use walk::bresenham::Ends;
-use walk::bresenham::Walk;
 use walk::clip::Clipped;
 use walk::clip::Segment;
 use walk::clip::clip_line;
+use walk::course::Course;
 ghost use mathlib.Core.Path.{_≡_};
-ghost use Prim.Native.Nat.{_+_};
-ghost use lib.ListN.{length};
+ghost use mathlib.Core.List.{[], _∷_};
+ghost use mathlib.Core.Bool.{true};
+ghost use Prim.Native.Nat.{ℕ, _+_, _*_, _/_, _<_, max};
+ghost use lib.ListN.{length, getD, set};
+ghost use lib.Bits.{bitOr};
 ghost use Rattle.walk.specs.Line.{lineDots};
+ghost use Rattle.walk.specs.Course.{courseOf, courseDot, courseAfter, courseDots};
+ghost use Rattle.grids.specs.Markers.{by, dotSize};
+ghost use Rattle.grids.specs.Painting.{cellsHeld};
 ghost use Rattle.shapes.specs.Point.{pointOf};
 ghost use Rattle.shapes.specs.Shapes.{flat, dotAt, pointDots, linePoints, columnTo, filledPoints, rectanglePoints, circlePoints};
 ghost use Rattle.shapes.specs.Drawing.{shapeDots, paintedBy};
@@ -45,32 +56,108 @@ pub struct Painter {
     pub word: u32,
 }
 
-// The dot of a point, or none.
-pub fn paint_point(cells: &mut [u32], p: Painter, x: f64, y: f64) -> u64
-    ensures { λ r. ⌜ (r ≡ length (pointDots (pointOf (p .view) x y))) × (now (cells .exit) ≡ paintedBy p (now (cells .entry)) (pointDots (pointOf (p .view) x y))) ⌝ }
+// Whether a marker's cells are of one dot: not Braille, HalfBlock, Quadrant or Sextant.
+fn is_plain(marker: u8) -> bool
+    ensures { λ r. ⌜ (r ≡ true → dotSize marker ≡ by 1 1) ⌝ }
 {
-    let found = point(p.view, x, y);
-    let Found::At(column, row) = found else {
-        return 0;
-    };
+    (marker != 1) & ((marker < 5) | (marker >= 8))
+}
+
+// A dot, by the kind of grid: on the two kinds painted most, only its bit and ink are set.
+fn paint_dot(cells: &mut [u32], p: Painter, column: u32, row: u32)
+    ensures { λ r. ⌜ now (cells .exit) ≡ paintedBy p (now (cells .entry)) (dotAt column row ∷ []) ⌝ }
+{
+    if p.marker == 1 {
+        let end = cells_held(&*cells, p.columns, p.rows);
+        paint_braille(&mut *cells, p.columns, end, column, row, p.word);
+        return;
+    }
+    if is_plain(p.marker) {
+        let end = cells_held(&*cells, p.columns, p.rows);
+        paint_plain(&mut *cells, p.columns, end, column, row, p.word);
+        return;
+    }
     paint(
         &mut *cells,
         p.columns,
         p.rows,
         p.marker,
-        column as u32,
-        row as u32,
+        column,
+        row,
         p.word,
     );
+}
+
+// A dot, or none.
+pub fn paint_found(cells: &mut [u32], p: Painter, found: Found) -> u64
+    ensures { λ r. ⌜ (r ≡ length (pointDots found)) × (now (cells .exit) ≡ paintedBy p (now (cells .entry)) (pointDots found)) ⌝ }
+{
+    let Found::At(column, row) = found else {
+        return 0;
+    };
+    paint_dot(&mut *cells, p, column as u32, row as u32);
     1
 }
 
-// The walk between two ends.
-pub fn paint_walk(cells: &mut [u32], p: Painter, e: Ends) -> u64
-    ensures { λ r. ⌜ (r ≡ length (lineDots e)) × (now (cells .exit) ≡ paintedBy p (now (cells .entry)) (lineDots e)) ⌝ }
+// The dot of a point, or none.
+pub fn paint_point(cells: &mut [u32], p: Painter, x: f64, y: f64) -> u64
+    ensures { λ r. ⌜ (r ≡ length (pointDots (pointOf (p .view) x y))) × (now (cells .exit) ≡ paintedBy p (now (cells .entry)) (pointDots (pointOf (p .view) x y))) ⌝ }
 {
-    let mut w = Walk::new(e);
-    let n = w.count();
+    let found = point(p.view, x, y);
+    paint_found(&mut *cells, p, found)
+}
+
+// Bits and ink set in a cell that the store has; the words of the picture are not touched.
+fn set_held(cells: &mut [u32], i: usize, bits: u32, word: u32)
+    requires { ⌜ i < length (now cells) / 5 ⌝ }
+    ensures { λ r. ⌜ now (cells .exit) ≡ set (set (now (cells .entry)) (i * 5 + 3) (bitOr (getD (now (cells .entry)) (i * 5 + 3) 0) bits)) (i * 5 + 4) word ⌝ }
+{
+    let k = i * 5;
+    cells[k + 3] = cells[k + 3] | bits;
+    cells[k + 4] = word;
+}
+
+// The dots of a course on a Braille grid, where the cell of each is held, so that none is tested.
+fn held_braille(cells: &mut [u32], p: Painter, c: Course)
+    requires { ⌜ (p .marker ≡ 1) × ((k : ℕ) → k < c .count → courseDot (courseAfter k c) .row / 4 * p .columns + courseDot (courseAfter k c) .column / 2 < cellsHeld (now cells) (p .columns) (p .rows)) ⌝ }
+    ensures { λ r. ⌜ now (cells .exit) ≡ paintedBy p (now (cells .entry)) (courseDots c (c .count)) ⌝ }
+{
+    let n = c.count;
+    let mut w = c;
+    let mut k: u32 = 0;
+    while k < n {
+        let d = w.dot();
+        let i = flat_index(p.columns, d.column / 2, d.row / 4);
+        let place = d.row % 4 * 2 + d.column % 2;
+        set_held(&mut *cells, i, 1 << place, p.word);
+        w = w.step();
+        k += 1;
+    }
+}
+
+// The same on a grid of one dot a cell.
+fn held_plain(cells: &mut [u32], p: Painter, c: Course)
+    requires { ⌜ (dotSize (p .marker) ≡ by 1 1) × ((k : ℕ) → k < c .count → courseDot (courseAfter k c) .row * p .columns + courseDot (courseAfter k c) .column < cellsHeld (now cells) (p .columns) (p .rows)) ⌝ }
+    ensures { λ r. ⌜ now (cells .exit) ≡ paintedBy p (now (cells .entry)) (courseDots c (c .count)) ⌝ }
+{
+    let n = c.count;
+    let mut w = c;
+    let mut k: u32 = 0;
+    while k < n {
+        let d = w.dot();
+        let i = flat_index(p.columns, d.column, d.row);
+        set_held(&mut *cells, i, 1, p.word);
+        w = w.step();
+        k += 1;
+    }
+}
+
+// The same on any grid, with a test for each dot.
+fn course_any(cells: &mut [u32], p: Painter, c: Course)
+    ensures { λ r. ⌜ now (cells .exit) ≡ paintedBy p (now (cells .entry)) (courseDots c (c .count)) ⌝ }
+{
+    let n = c.count;
+    let mut w = c;
     let mut k: u32 = 0;
     while k < n {
         let d = w.dot();
@@ -86,6 +173,44 @@ pub fn paint_walk(cells: &mut [u32], p: Painter, e: Ends) -> u64
         w = w.step();
         k += 1;
     }
+}
+
+fn greater(a: u16, b: u16) -> u32
+    ensures { λ r. ⌜ r ≡ max a b ⌝ }
+{
+    if a < b { b as u32 } else { a as u32 }
+}
+
+// The dots of the course between two ends. The marker is tested here once, and so are the cells:
+// each dot lies between the ends, so that where the cell of the greatest column and row is held, the
+// cells of all are.
+fn paint_course(cells: &mut [u32], p: Painter, e: Ends, c: Course)
+    requires { ⌜ c ≡ courseOf e ⌝ }
+    ensures { λ r. ⌜ now (cells .exit) ≡ paintedBy p (now (cells .entry)) (courseDots c (c .count)) ⌝ }
+{
+    let end = cells_held(&*cells, p.columns, p.rows);
+    let right = greater(e.x1, e.x2);
+    let low = greater(e.y1, e.y2);
+    let last_braille = flat_index(p.columns, right / 2, low / 4);
+    if (p.marker == 1) & (last_braille < end) {
+        held_braille(&mut *cells, p, c);
+        return;
+    }
+    let last_plain = flat_index(p.columns, right, low);
+    if is_plain(p.marker) & (last_plain < end) {
+        held_plain(&mut *cells, p, c);
+        return;
+    }
+    course_any(&mut *cells, p, c);
+}
+
+// The walk between two ends.
+pub fn paint_walk(cells: &mut [u32], p: Painter, e: Ends) -> u64
+    ensures { λ r. ⌜ (r ≡ length (lineDots e)) × (now (cells .exit) ≡ paintedBy p (now (cells .entry)) (lineDots e)) ⌝ }
+{
+    let c = Course::new(e);
+    paint_course(&mut *cells, p, e, c);
+    let n = c.count;
     n as u64
 }
 
@@ -98,11 +223,12 @@ pub fn paint_line(cells: &mut [u32], p: Painter, s: Segment) -> u64
     let Clipped::Line(c, _) = clipped else {
         return 0;
     };
-    let first = point(v, c.x1, c.y1);
+    let f = frame_of(v);
+    let first = spot(f, c.x1, c.y1);
     let Found::At(x1, y1) = first else {
         return 0;
     };
-    let second = point(v, c.x2, c.y2);
+    let second = spot(f, c.x2, c.y2);
     let Found::At(x2, y2) = second else {
         return 0;
     };
@@ -115,30 +241,26 @@ pub fn paint_column(cells: &mut [u32], p: Painter, column: u32, row: u32, fill: 
 {
     let low = if row < fill { row } else { fill };
     let high = if row < fill { fill } else { row };
-    let n = (high as u64) - (low as u64) + 1;
-    let mut k: u64 = 0;
-    while k < n {
-        let at = (low as u64) + k;
-        paint(
-            &mut *cells,
-            p.columns,
-            p.rows,
-            p.marker,
-            column,
-            at as u32,
-            p.word,
-        );
-        k += 1;
-    }
-    n
+    paint_rows(
+        &mut *cells,
+        p.columns,
+        p.rows,
+        p.marker,
+        column,
+        low,
+        high,
+        p.word,
+    );
+    (high as u64) - (low as u64) + 1
 }
 
-// From each dot of a walk its column to the fill's row.
+// From each dot of a line its column to the fill's row.
 pub fn paint_fill(cells: &mut [u32], p: Painter, e: Ends, fill: u16) -> u64
     ensures { λ r. ⌜ (r ≡ length (flat (columnTo fill) (lineDots e))) × (now (cells .exit) ≡ paintedBy p (now (cells .entry)) (flat (columnTo fill) (lineDots e))) ⌝ }
 {
-    let mut w = Walk::new(e);
-    let n = w.count();
+    let c = Course::new(e);
+    let n = c.count;
+    let mut w = c;
     let mut painted: u64 = 0;
     let mut k: u32 = 0;
     while k < n {
@@ -160,16 +282,17 @@ pub fn paint_filled_line(cells: &mut [u32], p: Painter, s: Segment, fill_to_y: f
     let Clipped::Line(c, _) = clipped else {
         return 0;
     };
-    let first = point(v, c.x1, c.y1);
+    let f = frame_of(v);
+    let first = spot(f, c.x1, c.y1);
     let Found::At(x1, y1) = first else {
         return 0;
     };
-    let second = point(v, c.x2, c.y2);
+    let second = spot(f, c.x2, c.y2);
     let Found::At(x2, y2) = second else {
         return 0;
     };
     let y_fill = clamp(fill_to_y, b.bottom, b.top);
-    let third = point(v, c.x1, y_fill);
+    let third = spot(f, c.x1, y_fill);
     let Found::At(_, fill) = third else {
         return 0;
     };
@@ -232,17 +355,20 @@ pub fn paint_rectangle(
     a + b + c + d
 }
 
-// A circle: the points at 360 angles.
+// A circle: the points at 360 angles, whose cosines and sines stand in a table. The table and the
+// frame are made once.
 pub fn paint_circle(cells: &mut [u32], p: Painter, x: f64, y: f64, radius: f64) -> u64
     ensures { λ r. ⌜ (r ≡ length (circlePoints (p .view) x y radius)) × (now (cells .exit) ≡ paintedBy p (now (cells .entry)) (circlePoints (p .view) x y radius)) ⌝ }
 {
+    let table = angle_table();
+    let frame = frame_of(p.view);
     let mut painted: u64 = 0;
-    let mut angle: u16 = 0;
+    let mut angle: usize = 0;
     while angle < 360 {
-        let radians = to_radians(angle as f64);
-        let circle_x = mul_add(radius, cos(radians), x);
-        let circle_y = mul_add(radius, sin(radians), y);
-        painted += paint_point(&mut *cells, p, circle_x, circle_y);
+        let circle_x = mul_add(radius, table[angle * 2], x);
+        let circle_y = mul_add(radius, table[angle * 2 + 1], y);
+        let found = spot(frame, circle_x, circle_y);
+        painted += paint_found(&mut *cells, p, found);
         angle += 1;
     }
     painted

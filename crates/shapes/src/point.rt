@@ -1,14 +1,16 @@
 // From bounds to a dot (Painter::get_point) and to a label's first cell (Canvas::render).
 use floats::casts::as_u16;
-use floats::casts::as_u64;
 use floats::methods::abs;
-use floats::polyfills::round;
 use grids::markers::resolution;
 use walk::clip::Bounds;
 ghost use mathlib.Core.Path.{_≡_};
+ghost use mathlib.Core.Bool.{false};
 ghost use Prim.Native.Nat.{_-_, _≤_};
+ghost use lib.IntN.{pos};
+ghost use lib.Dec.{T};
+ghost use lib.Ieee.{fin, le, lt, toUnsigned};
 ghost use Rattle.shapes.specs.Limits.{maxColumns, maxRows};
-ghost use Rattle.shapes.specs.Point.{outsideBounds, flatBounds, scaledOf, pointOf, truncatedOf, insideBounds, labelPlace, viewOf};
+ghost use Rattle.shapes.specs.Point.{outsideBounds, flatBounds, pointOf, truncatedOf, insideBounds, labelPlace, viewOf, frameOf, scaledBy, spotOf};
 
 // Bounds with a grid's resolution in dots.
 pub struct View {
@@ -53,31 +55,79 @@ fn less_one(n: u16) -> u16
     if n == 0 { 0 } else { n - 1 }
 }
 
-// `(distance * (dots - 1.0) / width).round()` as a number, at most dots - 1.
-fn scaled(distance: f64, dots: u16, width: f64) -> u16
-    ensures { λ r. ⌜ r ≡ scaledOf distance dots width ⌝ }
+// A view as a draw uses it for each of its points: what no point changes, computed once.
+pub struct Frame {
+    pub view: View,
+    pub width: f64, // from left to right
+    pub height: f64, // from bottom to top
+    pub across: f64, // the dots across less one
+    pub down: f64, // the dots down less one
+    pub flat: bool, // whether width or height is at most 0
+}
+
+pub fn frame_of(v: View) -> Frame
+    ensures { λ r. ⌜ r ≡ frameOf v ⌝ }
 {
-    let most = less_one(dots);
-    let k = as_u64(round(distance * (dots as f64 - 1.0) / width));
-    if k < most as u64 {
-        return k as u16;
+    let b = v.bounds;
+    let flat = is_flat(b);
+    Frame {
+        view: v,
+        width: b.right - b.left,
+        height: b.top - b.bottom,
+        across: v.width as f64 - 1.0,
+        down: v.height as f64 - 1.0,
+        flat,
     }
-    most
+}
+
+// The whole part of a float from 1 on that is below 2^53: its digits with the leading one put back,
+// shifted by its exponent. The kit's own truncation also serves larger floats, which costs twice as much.
+fn whole_part(x: f64) -> u64
+    requires { ⌜ T (le (fin false 1 (pos 0)) x) ⌝ ∗ ⌜ T (lt x (fin false 1 (pos 53))) ⌝ }
+    ensures { λ r. ⌜ r ≡ toUnsigned 64 x ⌝ }
+{
+    let bits = f64::to_bits(x);
+    let exponent = bits >> 52;
+    let digits = (bits & 0xf_ffff_ffff_ffff) | 0x10_0000_0000_0000;
+    digits >> (1075 - exponent)
+}
+
+// `(distance * steps / width).round()` as a number, at most dots - 1, by the sum with 0.5 alone: below
+// 0 `round` takes 0.5 away, but the number is 0 all the same, as it is below 1 and for a NaN.
+fn scaled(distance: f64, steps: f64, dots: u16, width: f64) -> u16
+    ensures { λ r. ⌜ r ≡ scaledBy distance steps dots width ⌝ }
+{
+    let sum = distance * steps / width + 0.5;
+    if sum >= 1.0 {
+        if sum < dots as f64 {
+            return whole_part(sum) as u16;
+        }
+        return less_one(dots);
+    }
+    0
 }
 
 // The dot of a point: none outside the bounds, nor where these have no width or height.
+pub fn spot(f: Frame, x: f64, y: f64) -> Found
+    ensures { λ r. ⌜ r ≡ spotOf f x y ⌝ }
+{
+    let v = f.view;
+    let b = v.bounds;
+    let outside = is_outside(b, x, y);
+    if outside | f.flat {
+        return Found::Nowhere;
+    }
+    let column = scaled(x - b.left, f.across, v.width, f.width);
+    let row = scaled(b.top - y, f.down, v.height, f.height);
+    Found::At(column, row)
+}
+
+// The same of a point by itself.
 pub fn point(v: View, x: f64, y: f64) -> Found
     ensures { λ r. ⌜ r ≡ pointOf v x y ⌝ }
 {
-    let b = v.bounds;
-    let outside = is_outside(b, x, y);
-    let flat = is_flat(b);
-    if outside | flat {
-        return Found::Nowhere;
-    }
-    let column = scaled(x - b.left, v.width, b.right - b.left);
-    let row = scaled(b.top - y, v.height, b.top - b.bottom);
-    Found::At(column, row)
+    let frame = frame_of(v);
+    spot(frame, x, y)
 }
 
 fn is_inside(b: Bounds, x: f64, y: f64) -> bool

@@ -1,14 +1,15 @@
--- One law for each way out of clip_line's loop, and what document 01 promises of the number of cuts.
+-- One law for each way out of clip_outside's loop, and what document 01 promises of the number of cuts.
 use mathlib.Core.Path.{_≡_, refl, sym, ap, _∙_}
-use mathlib.Core.Bool.{Bool, true, false, not, _||_, cond}
+use mathlib.Core.Bool.{Bool, true, false, not, _&&_, _||_, cond}
 use Prim.Native.Nat.{ℕ, zero, suc, _+_, _≤_}
 use native.Mathlib.Omega.{arith}
+use lib.Ieee.{Float, lt}
 use Rattle.walk.specs.declared.clip.Bounds.{Bounds}
 use Rattle.walk.specs.declared.clip.Segment.{Segment}
 use Rattle.walk.specs.declared.clip.Sides.{Sides}
 use Rattle.walk.specs.declared.clip.Clipped.{Clipped}
 use Rattle.walk.specs.declared.clip.Clipped.the-variants.{Line, NoLine}
-use Rattle.walk.specs.Clip.{firstSides, secondSides, outside, common, cutOf, judged, clipFrom, clipOf, cutsOf}
+use Rattle.walk.specs.Clip.{sidesOf, firstSides, secondSides, outside, common, cutOf, judged, clipFrom, clipOf, cutsOf}
 
 -- the answer where the ends have sides and none in common
 abbrev otherwise : ℕ → ℕ → Bounds → Segment → Clipped
@@ -44,6 +45,17 @@ module _ (left n : ℕ) (b : Bounds) (s : Segment) (first second : Sides) (e : f
 
       pub cut-again : (j : ℕ) (next : Segment) → left ≡ suc j → next ≡ cutOf b s first second → clipFrom j (n + 1) b next ≡ clipFrom left n b s
       cut-again j next l m = rw (m, e, f) (sym (goes-on ∙ ap (λ (l : ℕ). otherwise l n b s) l))
+
+-- whether a point has a side, with no need to know which
+pub any-side : (b : Bounds) (x y : Float) → lt x (b .left) || lt (b .right) x || lt y (b .bottom) || lt (b .top) y ≡ outside (sidesOf b x y)
+unfolding sidesOf outside
+any-side b x y = go (lt x (b .left)) (lt (b .right) x) (lt y (b .bottom)) (lt (b .top) y)
+  where
+    go : (l r d u : Bool) → l || r || d || u ≡ l || not l && r || d || not d && u
+    go true r d u = refl
+    go false true d u = refl
+    go false false true u = refl
+    go false false false u = refl
 
 -- ---- 'at most 8' cuts
 judged-cuts : (P : ℕ → Type 0) (b : Bounds) (s : Segment) (n : ℕ) (else : Clipped) → P n → P (cutsOf else) → P (cutsOf (judged b s n else))

@@ -41,9 +41,9 @@ toward-between a b o h = go (ltb b a) refl
     go false t = let g = ltb-false b a t in (omega arith, omega arith)
 
 -- ---- the end where a line starts
-record Forward (e : Ends) : Type 0 where
-  level : shallow e ≡ true → e .x1 ≤ e .x2
-  upright : shallow e ≡ false → e .y1 ≤ e .y2
+pub record Forward (e : Ends) : Type 0 where
+  pub level : shallow e ≡ true → e .x1 ≤ e .x2
+  pub upright : shallow e ≡ false → e .y1 ≤ e .y2
 
 exchanged-shallow : (e : Ends) → shallow (exchanged e) ≡ shallow e
 exchanged-shallow e = rw (apart-comm (e .y2) (e .y1), apart-comm (e .x2) (e .x1))
@@ -51,7 +51,7 @@ exchanged-shallow e = rw (apart-comm (e .y2) (e .y1), apart-comm (e .x2) (e .x1)
     apart-comm : (a b : ℕ) → apart a b ≡ apart b a
     apart-comm a b = omega arith
 
-forward : (e : Ends) → Forward (fromStart e)
+pub forward : (e : Ends) → Forward (fromStart e)
 unfolding fromStart startsSecond
 forward e = go (startsSecond e) refl
   where
@@ -78,7 +78,7 @@ pub record Within (e : Ends) (d : Dot) : Type 0 where
 
 -- by the two ways a line may run
 module _ (P : Dot → Type 0) (e : Ends) (k : ℕ) where
-  by-direction : (shallow e ≡ true → P (record { column = e .x1 + k; row = toward (e .y1) (e .y2) (offsetAfter (dx e) (dy e) k) }))
+  pub by-direction : (shallow e ≡ true → P (record { column = e .x1 + k; row = toward (e .y1) (e .y2) (offsetAfter (dx e) (dy e) k) }))
       → (shallow e ≡ false → P (record { column = toward (e .x1) (e .x2) (offsetAfter (dy e) (dx e) k); row = e .y1 + k })) → P (dotAfter e k)
   unfolding dotAfter
   by-direction level upright = go (shallow e) refl
@@ -93,10 +93,10 @@ along-all a b h = omega arith
 along-between : (a b k : ℕ) → a ≤ b → k ≤ apart a b → (min a b ≤ a + k) × (a + k ≤ max a b)
 along-between a b k h g = (omega arith, omega arith)
 
-larger-left : (a b : ℕ) → b < a → max a b ≡ a
+pub larger-left : (a b : ℕ) → b < a → max a b ≡ a
 larger-left a b h = omega arith
 
-larger-right : (a b : ℕ) → a ≤ b → max a b ≡ b
+pub larger-right : (a b : ℕ) → a ≤ b → max a b ≡ b
 larger-right a b h = omega arith
 
 offset-all : (long short : ℕ) → short ≤ long → offsetAfter long short long ≡ short
@@ -106,7 +106,7 @@ offset-all zero short low = offset-start 0 short ∙ none short low
     none n h = omega arith
 offset-all (suc l) short low = offset-end (suc l) short (omega arith) low
 
-offset-short : (long short k : ℕ) → short ≤ long → k ≤ long → offsetAfter long short k ≤ short
+pub offset-short : (long short k : ℕ) → short ≤ long → k ≤ long → offsetAfter long short k ≤ short
 offset-short long short k low h = offset-le long short k short low (mul-le-mul-right short h)
 
 first-is : (e : Ends) → dotAfter e 0 ≡ firstEnd e

@@ -50,6 +50,12 @@ module _ (long short : ℕ) (some : 0 < long) (low : short ≤ long) where
   unfolding offsetAfter
   offset-end = div-eq-of-lt-le (2 * long) (omega (arith, twice short)) (omega (arith, twice-next short))
 
+-- a slope of one
+pub offset-whole : (long k : ℕ) → k ≤ long → offsetAfter long long k ≡ k
+unfolding offsetAfter
+offset-whole zero k h = div-zero _ ∙ omega arith
+offset-whole (suc l) k h = div-eq-of-lt-le (2 * suc l) (omega arith) (omega arith)
+
 -- an offset is at most n where k steps of the line's slope reach no further
 pub offset-le : (long short k n : ℕ) → short ≤ long → k * short ≤ long * n → offsetAfter long short k ≤ n
 unfolding offsetAfter

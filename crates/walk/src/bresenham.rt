@@ -35,7 +35,7 @@ pub struct Walk {
     pub d: i64,
 }
 
-fn abs_diff(a: u16, b: u16) -> u16
+pub(crate) fn abs_diff(a: u16, b: u16) -> u16
     ensures { λ r. ⌜ r ≡ apart a b ⌝ }
 {
     if a < b { b - a } else { a - b }
@@ -54,7 +54,7 @@ fn starts_second(e: Ends) -> bool
 }
 
 // The line with the end where its walk starts first.
-fn from_start(e: Ends) -> Ends
+pub(crate) fn from_start(e: Ends) -> Ends
     ensures { λ r. ⌜ r ≡ fromStart e ⌝ }
 {
     if starts_second(e) {

@@ -122,8 +122,8 @@ fn cut(b: Bounds, s: Segment, first: Sides, second: Sides) -> Segment
     }
 }
 
-// The part of a line inside the bounds, with the number of cuts, at most 8.
-pub fn clip_line(b: Bounds, line: Segment) -> Clipped
+// The part of a line with an end outside, by the rule.
+fn clip_outside(b: Bounds, line: Segment) -> Clipped
     ensures { λ r. ⌜ r ≡ clipOf b line ⌝ }
 {
     let mut s = line;
@@ -144,4 +144,24 @@ pub fn clip_line(b: Bounds, line: Segment) -> Clipped
         s = cut(b, s, first, second);
         cuts += 1;
     }
+}
+
+// Whether a point has a side, with no need to know which.
+fn is_outside(b: Bounds, x: f64, y: f64) -> bool
+    ensures { λ r. ⌜ r ≡ outside (sidesOf b x y) ⌝ }
+{
+    (x < b.left) | (x > b.right) | (y < b.bottom) | (y > b.top)
+}
+
+// The part of a line inside the bounds, with the number of cuts, at most 8. Most lines have no side at
+// either end, and are accepted at once.
+pub fn clip_line(b: Bounds, line: Segment) -> Clipped
+    ensures { λ r. ⌜ r ≡ clipOf b line ⌝ }
+{
+    let first = is_outside(b, line.x1, line.y1);
+    let second = is_outside(b, line.x2, line.y2);
+    if first | second {
+        return clip_outside(b, line);
+    }
+    Clipped::Line(line, 0)
 }

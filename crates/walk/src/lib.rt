@@ -3,3 +3,4 @@
 // in specs/.
 pub mod bresenham; // bresenham.rt: the walk along a line, dot by dot
 pub mod clip; // clip.rt: the part of a line inside the bounds
+pub mod course; // course.rt: the dots of a walk by fixed point

@@ -1,53 +1,23 @@
 -- `round` and then `as u64` of a number at most a quarter above k gives k at most: half a one more is still below k + 1.
-use mathlib.Core.Path.{_≡_, refl, sym, ap, _∙_, subst}
-use mathlib.Core.Logic.{inl, inr}
+use mathlib.Core.Path.{_≡_, subst}
 use mathlib.Core.Bool.{Bool, true, false}
-use Prim.Native.Nat.{ℕ, zero, suc, _+_, _-_, _*_, _^_, _≤_, _<_, min, zero-le}
-use native.Mathlib.Nat.{le-trans, le-of-eq, lt-of-le-of-lt, lt-of-lt-of-le, mul-le-mul-right, mul-pos}
+use Prim.Native.Nat.{ℕ, suc, _+_, _-_, _*_, _^_, _≤_, _<_, min, zero-le}
+use native.Mathlib.Nat.{le-trans, le-of-eq, lt-of-le-of-lt, mul-le-mul-right, mul-pos}
 use native.Mathlib.Omega.{arith}
-use lib.IntN.{ℤ, pos, negsuc, negℤ}
-use lib.Dec.{lit<, lit≤, le→leb}
-use lib.Ieee.{Float, nan, inf, fin, binary64, up, down, ofInt, ofBits, neg, inFloat}
+use lib.IntN.{ℤ, negsuc}
+use lib.Dec.{lit<}
+use lib.Ieee.{Float, nan, inf, fin, up, down, ofBits, neg}
 use lib.Ieee.Fits.{down-pos}
-use lib.Ieee.Back.{unsigned-back}
 use Rattle.floats.specs.Arithmetic.{_⊕_}
-use Rattle.floats.specs.Rounding.{IsUnits, midway, Rounded}
+use Rattle.floats.specs.Rounding.{IsUnits, Rounded}
 use Rattle.floats.specs.Truncation.{wholePart, asSigned, asUnsigned, wholeOf}
 use Rattle.floats.specs.Methods.{absOf, copysignOf}
 use Rattle.floats.specs.Polyfills.{roundOf, 0·5}
-use Rattle.floats.proofs.Cases.{lt-or-le, false-not-true}
-use Rattle.floats.proofs.Truncation.{unsigned-is}
-use Rattle.floats.proofs.Rounding.Operations.{sum-once, integer-once}
+use Rattle.floats.proofs.Rounding.Operations.{sum-once}
+use Rattle.floats.proofs.HalfAdded.{cut-negative, back}
 use Rattle.shapes.proofs.ClampIdle.Bounded.{one, quarter, AtMost, at-most, whole-below, under-next}
 
 -- ---- `as i64 as f64 as u64`
-
--- a rounded result of the sign true is cut to 0
-cut-zero : (r : Float) (num : ℕ) → Rounded r true num 1 → asUnsigned 64 r ≡ 0
-unfolding asUnsigned
-cut-zero r num R = elim (lt-or-le (num * one) (midway * 1)) [
-  | inl h ↦ finite r _ (R .within h .2)
-  | inr h ↦ ap (asUnsigned 64) (R .over h)
-]
-  where
-    finite : (x : Float) (n : ℕ) → IsUnits x true n → asUnsigned 64 x ≡ 0
-    finite nan n h = absurd h
-    finite (inf t) n h = absurd h
-    finite (fin true m e) n h = refl
-    finite (fin false m e) n h = false-not-true (h .0)
-
-cut-negative : (n : ℕ) → asUnsigned 64 (ofInt binary64 (negℤ (pos n))) ≡ 0
-unfolding asUnsigned ofInt
-cut-negative zero = refl
-cut-negative (suc n) = cut-zero (ofInt binary64 (negsuc n)) (suc n) (integer-once (negsuc n))
-
-back : (v : ℕ) → v < 1000 → asUnsigned 64 (ofInt binary64 (pos v)) ≡ v
-unfolding inFloat
-back v h = sym (unsigned-is 64 (ofInt binary64 (pos v))) ∙ unsigned-back binary64 64 v (le→leb v (2 ^ 53) (small v h)) (lt-of-lt-of-le h (lit≤ tt)) .1
-  where
-    small : (x : ℕ) → x < 1000 → x ≤ 2 ^ 53
-    small x g = omega arith
-
 cut-whole : (x : Float) (s : Bool) (n k : ℕ) → IsUnits x s n → n < suc k * one → k < 999 → asUnsigned 64 (wholeOf x) ≤ k
 unfolding asSigned
 cut-whole nan s n k h l g = absurd h
@@ -58,7 +28,7 @@ cut-whole (fin false m e) s n k h l g =
     let v = min (wholePart m e) (2 ^ 63 - 1) in
     le-trans (le-of-eq (back v (small (wholePart m e) (2 ^ 63 - 1) k w g))) (lower (wholePart m e) (2 ^ 63 - 1) k w)
   where
-    small : (a b c : ℕ) → a < suc c → c < 999 → min a b < 1000
+    small : (a b c : ℕ) → a < suc c → c < 999 → min a b < 2 ^ 16
     small a b c i j = omega arith
 
     lower : (a b c : ℕ) → a < suc c → min a b ≤ c

@@ -2,12 +2,12 @@
 use mathlib.Core.Path.{_≡_, refl, sym, _∙_}
 use Prim.Native.Nat.{suc}
 use native.Mathlib.Omega.{arith}
-use Rattle.canvas.specs.Calls.{dot, callDots}
-use Rattle.canvas.specs.Model.{refusalOn}
-use Rattle.canvas.specs.Contracts.{given}
-use Rattle.canvas.proofs.Refusals.{by-dot}
-use Rattle.canvas.proofs.CallSteps.{refused-gives}
-use Rattle.canvas.proofs.PaintSteps.{paints-colour, paints-gives}
+use Rattle.ledger.specs.Calls.{dot, callDots}
+use Rattle.ledger.specs.Model.{refusalOn}
+use Rattle.ledger.specs.Contracts.{given}
+use Rattle.ledger.proofs.Refusals.{by-dot}
+use Rattle.ledger.proofs.CallSteps.{refused-gives}
+use Rattle.ledger.proofs.PaintSteps.{paints-colour, paints-gives}
 use borrow.Author.Needs.{needs}
 use Rattle.canvas.proofs.calls.dot.Statement.{statement}
 use Rattle.canvas.proofs.calls.dot.Tie as tie

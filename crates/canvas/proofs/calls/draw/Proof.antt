@@ -1,10 +1,10 @@
 -- A refused call is given back; an accepted one has painted its dots.
-use Rattle.canvas.specs.Calls.{draw, callDots}
-use Rattle.canvas.specs.Model.{refusalOn}
-use Rattle.canvas.specs.Contracts.{given}
-use Rattle.canvas.proofs.Refusals.{by-draw}
-use Rattle.canvas.proofs.CallSteps.{refused-gives}
-use Rattle.canvas.proofs.PaintSteps.{painter-gives}
+use Rattle.ledger.specs.Calls.{draw, callDots}
+use Rattle.ledger.specs.Model.{refusalOn}
+use Rattle.ledger.specs.Contracts.{given}
+use Rattle.ledger.proofs.Refusals.{by-draw}
+use Rattle.ledger.proofs.CallSteps.{refused-gives}
+use Rattle.ledger.proofs.PaintSteps.{painter-gives}
 use mathlib.Core.Path.{sym, _∙_}
 use borrow.Author.Needs.{needs}
 use Rattle.canvas.proofs.calls.draw.Statement.{statement}

@@ -1,7 +1,7 @@
 -- The two refusals, and the point by case.
 use mathlib.Core.Path.{sym, _∙_}
-use Rattle.canvas.specs.PointCall.{pointRefusal, pointedOn}
-use Rattle.canvas.proofs.CallSteps.{canvas-size}
+use Rattle.ledger.specs.PointCall.{pointRefusal, pointedOn}
+use Rattle.ledger.proofs.CallSteps.{canvas-size}
 use borrow.Author.Needs.{needs}
 use Rattle.canvas.proofs.calls.get_point.Statement.{statement}
 use Rattle.canvas.proofs.calls.get_point.Tie as tie

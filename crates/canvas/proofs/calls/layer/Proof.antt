@@ -1,7 +1,7 @@
 -- A refused call is given back; an accepted one has saved its layer and cleared the grid.
 use mathlib.Core.Path.{sym, _∙_}
-use Rattle.canvas.specs.Calls.{layer}
-use Rattle.canvas.proofs.CallSteps.{refused-gives, accepted-gives, layer-by}
+use Rattle.ledger.specs.Calls.{layer}
+use Rattle.ledger.proofs.CallSteps.{refused-gives, accepted-gives, layer-by}
 use borrow.Author.Needs.{needs}
 use Rattle.canvas.proofs.calls.layer.Statement.{statement}
 use Rattle.canvas.proofs.calls.layer.Tie as tie
@@ -18,21 +18,18 @@ returns c =
     let g = refused-gives (a .canvas) (a .cells .now) (a .labels .now) layer _ _ (layer-by _ _ _ _ (c .before .before .state .ensures)) (c .before .if1 .taken) (c .refused .ensures) in
     (g .called, g .cells)
 
-save-requires : tie.Need-save-requires
-save-requires c κs = search needs
-
-reset-requires : tie.Need-reset-requires
-reset-requires c κs = search needs
+save-reset-requires : tie.Need-save-reset-requires
+save-reset-requires c κs = search needs
 
 same-length : tie.Need-same-length
 same-length c = search needs
 
 returns-2 : tie.Need-returns-2
 returns-2 c =
-    let u = c .before .before .before .before .before .before .before .before .before in
+    let u = c .before .before .before .before .before in
     let a = u .before .before .before .before .args in
     let g = accepted-gives (a .canvas) (a .cells .now) (a .labels .now) layer (layer-by _ _ _ _ (sym (u .if1 .left) ∙ u .before .state .ensures)) in
-    (g .called, c .before .before .before .reset .ensures ∙ rw (c .before .before .before .before .before .before .before .save .ensures) (g .cells))
+    (g .called, c .before .before .before .save-reset .ensures ∙ g .cells)
 
 pub layer-spec : {M : Type 1} → statement M
 layer-spec =
@@ -41,7 +38,6 @@ layer-spec =
     state-requires
     refused-requires
     returns
-    save-requires
-    reset-requires
+    save-reset-requires
     same-length
     returns-2)

@@ -1,6 +1,6 @@
 -- A refused opening is all zero; an accepted one has blanked its cells.
 use mathlib.Core.Path.{sym, _∙_}
-use Rattle.canvas.proofs.CallSteps.{open-refused, open-done}
+use Rattle.ledger.proofs.CallSteps.{open-refused, open-done}
 use borrow.Author.Needs.{needs}
 use Rattle.canvas.proofs.calls.open.Statement.{statement}
 use Rattle.canvas.proofs.calls.open.Tie as tie

@@ -2,7 +2,7 @@
 use Prim.Native.Nat.{_*_, _<_, _^_}
 use native.Mathlib.Omega.{arith}
 use Rattle.grids.proofs.Products.{product-lt}
-use Rattle.canvas.specs.Calls.{openRefusal}
+use Rattle.ledger.specs.Calls.{openRefusal}
 use borrow.Author.Needs.{needs}
 use Rattle.canvas.proofs.calls.open_refusal.Statement.{statement}
 use Rattle.canvas.proofs.calls.open_refusal.Tie as tie

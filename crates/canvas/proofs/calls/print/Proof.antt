@@ -1,8 +1,8 @@
 -- A refused call is given back; an accepted one has kept its label.
 use mathlib.Core.Path.{sym, _∙_}
-use Rattle.canvas.specs.Calls.{print}
-use Rattle.canvas.proofs.CallSteps.{refused-gives}
-use Rattle.canvas.proofs.LabelSteps.{print-gives}
+use Rattle.ledger.specs.Calls.{print}
+use Rattle.ledger.proofs.CallSteps.{refused-gives}
+use Rattle.ledger.proofs.LabelSteps.{print-gives}
 use borrow.Author.Needs.{needs}
 use Rattle.canvas.proofs.calls.print.Statement.{statement}
 use Rattle.canvas.proofs.calls.print.Tie as tie

@@ -1,7 +1,7 @@
 -- The tests in the order of the definition.
 use borrow.Author.Tests.{le-leb, lt-leb}
-use Rattle.canvas.specs.Calls.{refusal}
-use Rattle.canvas.proofs.CallSteps.{or-first}
+use Rattle.ledger.specs.Calls.{refusal}
+use Rattle.ledger.proofs.CallSteps.{or-first}
 use borrow.Author.Needs.{needs}
 use Rattle.canvas.proofs.calls.print_refusal.Statement.{statement}
 use Rattle.canvas.proofs.calls.print_refusal.Tie as tie

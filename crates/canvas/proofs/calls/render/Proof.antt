@@ -1,8 +1,8 @@
 -- A refused call is given back; an accepted one has laid the picture, then the labels.
 use mathlib.Core.Path.{sym, _∙_}
-use Rattle.canvas.specs.Calls.{render}
-use Rattle.canvas.proofs.CallSteps.{refused-gives}
-use Rattle.canvas.proofs.LabelSteps.{render-refused, render-gives}
+use Rattle.ledger.specs.Calls.{render}
+use Rattle.ledger.proofs.CallSteps.{refused-gives}
+use Rattle.ledger.proofs.LabelSteps.{render-refused, render-gives}
 use borrow.Author.Needs.{needs}
 use Rattle.canvas.proofs.calls.render.Statement.{statement}
 use Rattle.canvas.proofs.calls.render.Tie as tie

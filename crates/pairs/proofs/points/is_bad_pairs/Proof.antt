@@ -49,19 +49,19 @@ use denote.Triple.Table.{entered, cited}
 use denote.Triple.Walked.{says, Stays, stay-none-slice, walkOf, goes-none-slice, Walks, ends-at, walked, walk-meets}
 use denote.Exit.{yes}
 use Rattle.shapes.specs.declared.painters.Pair.{Pair}
-use Rattle.canvas.specs.Calls.{badPoint, badPairs}
+use Rattle.ledger.specs.Calls.{badPoint, badPairs}
 use Rattle.pairs.proofs.PairScans.{bad-pairs-from}
 use Rattle.shapes.proofs.painters.Pair as T
 use Rattle.shapes.proofs.painters.Pair.Laws as T′
-use Rattle.canvas.proofs.state.is_bad_point as point
-use Rattle.canvas.proofs.state.is_bad_point.Symbol as point-def
-use Rattle.canvas.proofs.state.is_bad_point.Symbol.{name as #point}
-use Rattle.canvas.proofs.state.is_bad_point.Met as point-thm
+use Rattle.limits.proofs.state.is_bad_point as point
+use Rattle.limits.proofs.state.is_bad_point.Symbol as point-def
+use Rattle.limits.proofs.state.is_bad_point.Symbol.{name as #point}
+use Rattle.limits.proofs.state.is_bad_point.Met as point-thm
 use Rattle.pairs.proofs.points.is_bad_pairs.Key.{name as #pairs}
 use Rattle.pairs.proofs.points.is_bad_pairs as f
 use Rattle.pairs.proofs.points.is_bad_pairs.Statement as stated
 use Rattle.pairs.proofs.points.is_bad_pairs.Code as code
-use Rattle.pairs.proofs.points.is_bad_pairs.Code.{calls-canvas·state·is-bad-point as calls-point}
+use Rattle.pairs.proofs.points.is_bad_pairs.Code.{calls-limits·state·is-bad-point as calls-point}
 use Rattle.pairs.proofs.points.is_bad_pairs.Code.Mir as code-mir
 
 abbrev stayed : Stays (f.ended .signature .params) (f.ended .kept)

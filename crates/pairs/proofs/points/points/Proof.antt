@@ -1,8 +1,8 @@
 -- `points::points` meets its contract: a walk of its MIR, by hand. The pairs are lent to `is_bad_pairs` and to `paint_pairs` beside the token of their lifetime, which comes back; the cells are lent again to `paint_pairs`, and come back.
--- All that the proof knows of the six functions that it calls is that they meet their contracts. What those say (`BadSays` and the rest below) goes to `closes-refused` and `closes-drawn`, the only lines that look into the definitions of the specs.
+-- All that the proof knows of the six functions that it calls is that they meet their contracts. What those say goes to `closes-refused` and `closes-drawn` of PointsSteps, which alone look into the definitions of the specs.
 -- Assumes nothing.
-use mathlib.Core.Path.{_≡_, refl, sym, _∙_, ap, subst}
-use Prim.Native.Nat.{ℕ, _+_, _<_, _≤_, _^_}
+use mathlib.Core.Path.{_≡_, refl, sym, ap, subst}
+use Prim.Native.Nat.{ℕ, _+_, _<_, _^_}
 use mathlib.Core.Bool.{Bool, true, false, not}
 use mathlib.Core.List.{List, [], _∷_}
 use lib.ListN.{length}
@@ -45,27 +45,19 @@ use denote.Triple.Walked.{says, Stays, stay-none-slice, stay-slice, stay-none, w
 use denote.Exit.{yes}
 use Rattle.shapes.specs.declared.painters.Pair.{Pair}
 use Rattle.shapes.specs.declared.painters.Painter.{Painter}
-use Rattle.canvas.specs.declared.state.Canvas.{Canvas}
-use Rattle.canvas.specs.declared.state.Called.{Called}
-use Rattle.shapes.specs.Shapes.{pairDots}
-use Rattle.shapes.specs.Drawing.{paintedBy}
-use Rattle.shapes.specs.Limits.{maxColumns, maxRows, maxDraws, reset}
-use Rattle.canvas.specs.declared.state.Answer.the-variants.{Refused as is-refused, Painted as is-painted}
-use Rattle.canvas.specs.Calls.{points, badPairs, callDots}
-use Rattle.canvas.specs.Model.{refusalOn, drawnCanvas, stateAfter}
-use Rattle.canvas.specs.Contracts.{given as started, refusalBy, painterOf, calledOn}
-use Rattle.canvas.proofs.Refusals.{by-points}
-use Rattle.canvas.proofs.CallSteps.{refused-gives}
-use Rattle.canvas.proofs.PaintSteps.{painter-gives}
+use Rattle.ledger.specs.declared.state.Canvas.{Canvas}
+use Rattle.ledger.specs.declared.state.Called.{Called}
+use Rattle.ledger.specs.Calls.{points}
 use Rattle.pairs.proofs.LentAgain.{LentAgain, lends-again, comes-back}
 use Rattle.pairs.proofs.Callee.{answers}
+use Rattle.pairs.proofs.PointsSteps.{BadSays, RefusalSays, RefusedSays, PainterSays, PaintSays, DrawnSays, Says, closes-refused, closes-drawn}
 use Rattle.shapes.proofs.painters.Pair as R
 use Rattle.shapes.proofs.painters.Painter as P
 use Rattle.shapes.proofs.painters.Painter.Laws as P′
-use Rattle.canvas.proofs.state.Canvas as T
-use Rattle.canvas.proofs.state.Canvas.Laws as T′
-use Rattle.canvas.proofs.state.Called as D
-use Rattle.canvas.proofs.state.Called.Laws as D′
+use Rattle.ledger.proofs.state.Canvas as T
+use Rattle.ledger.proofs.state.Canvas.Laws as T′
+use Rattle.ledger.proofs.state.Called as D
+use Rattle.ledger.proofs.state.Called.Laws as D′
 use Rattle.pairs.proofs.points.is_bad_pairs as bad
 use Rattle.pairs.proofs.points.is_bad_pairs.Symbol as bad-def
 use Rattle.pairs.proofs.points.is_bad_pairs.Symbol.{name as #bad}
@@ -95,52 +87,6 @@ use Rattle.pairs.proofs.points.points as f
 use Rattle.pairs.proofs.points.points.Statement as stated
 use Rattle.pairs.proofs.points.points.Code as code
 use Rattle.pairs.proofs.points.points.Code.Mir as code-mir
-
--- ---- what the contracts say, as plain facts
--- `is_bad_pairs`, of its answer t
-abbrev BadSays : List Pair → Bool → Type 0
-BadSays pairs t = t ≡ badPairs pairs
-
--- `points_refusal`, of its answer n
-abbrev RefusalSays : Canvas → ℕ → ℕ → Bool → ℕ → ℕ → ℕ → Type 0
-RefusalSays c cells labels t count colour n = (pairs : List Pair) → t ≡ badPairs pairs → count ≡ length pairs → n ≡ refusalBy c cells labels (points pairs colour)
-
--- `refused`, of its answer r
-abbrev RefusedSays : Canvas → ℕ → Called → Type 0
-RefusedSays c n r = r ≡ record { canvas = c; answer = is-refused n }
-
--- `painter_for`, of the painter p
-abbrev PainterSays : Canvas → ℕ → Painter → Type 0
-PainterSays c colour p = c .columns ≤ maxColumns → c .rows ≤ maxRows → colour ≤ reset → p ≡ painterOf c colour
-
--- `paint_pairs`, of its answer k and of the cells that it leaves
-abbrev PaintSays : Painter → List ℕ → List Pair → ℕ → List ℕ → Type 0
-PaintSays p cells pairs k cells′ = (k ≡ length (pairDots (p .view) pairs)) × (cells′ ≡ paintedBy p cells (pairDots (p .view) pairs))
-
--- `drawn`, of its answer r
-abbrev DrawnSays : Canvas → ℕ → Called → Type 0
-DrawnSays c k r = c .draws < maxDraws → c .painted + k < 2 ^ 64 → r ≡ record { canvas = drawnCanvas c k; answer = is-painted k }
-
--- and `points` itself, of its answer r and of the cells that it leaves
-abbrev Says : Canvas → List ℕ → List ℕ → List Pair → ℕ → Called → List ℕ → Type 0
-Says c cells labels pairs colour r cells′ = (r ≡ calledOn (started c cells labels) (points pairs colour)) × (cells′ ≡ stateAfter (started c cells labels) (points pairs colour) .cells)
-
--- the refused way: the number is not 0, and the cells are as they were
-closes-refused : (c : Canvas) (cells labels : List ℕ) (pairs : List Pair) (colour : ℕ) (t : Bool) (n : ℕ) (r : Called)
-    → BadSays pairs t → RefusalSays c (length cells) (length labels) t (length pairs) colour n → (n ≡ 0 → ⊥) → RefusedSays c n r
-    → Says c cells labels pairs colour r cells
-closes-refused c cells labels pairs colour t n r bad-is refusal-is on refused-is =
-    let g = refused-gives c cells labels (points pairs colour) n r (refusal-is pairs bad-is refl) on refused-is in
-    (g .called, g .cells)
-
--- the accepted way: the number is 0, and the pairs are painted
-closes-drawn : (c : Canvas) (cells labels : List ℕ) (pairs : List Pair) (colour : ℕ) (t : Bool) (n : ℕ) (p : Painter) (k : ℕ) (cells′ : List ℕ) (r : Called)
-    → BadSays pairs t → RefusalSays c (length cells) (length labels) t (length pairs) colour n → n ≡ 0 → PainterSays c colour p → PaintSays p cells pairs k cells′ → DrawnSays c k r
-    → Says c cells labels pairs colour r cells′
-unfolding callDots refusalOn
-closes-drawn c cells labels pairs colour t n p k cells′ r bad-is refusal-is off painter-is paint-is drawn-is =
-    let g = painter-gives (started c cells labels) (points pairs colour) (by-points pairs colour) (sym off ∙ refusal-is pairs bad-is refl) p k cells′ r painter-is paint-is drawn-is in
-    (g .called, g .cells)
 
 -- the number, by how the test came out
 no-zero : (n : ℕ) → Holds (not (eqb n 0)) → n ≡ 0 → ⊥

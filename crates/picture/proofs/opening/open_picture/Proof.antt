@@ -3,9 +3,9 @@ use native.Mathlib.Omega.{arith}
 use mathlib.Core.Path.{_≡_, refl, sym, _∙_, ap}
 use Prim.Native.Nat.{_≤_}
 use lib.ListN.{length}
-use Rattle.canvas.specs.Calls.{Opening}
-use Rattle.canvas.specs.Model.{openCells}
-use Rattle.canvas.specs.Contracts.{openCalled}
+use Rattle.ledger.specs.Calls.{Opening}
+use Rattle.ledger.specs.Model.{openCells}
+use Rattle.ledger.specs.Contracts.{openCalled}
 use borrow.Rule.Slice.PartAt.{part-to-end}
 use Rattle.picture.specs.Fields.{sizeBy}
 use Rattle.picture.specs.Records.{openingMap, openingWidths, openingOf, openingEnd}

@@ -1,7 +1,7 @@
 -- The fields are the call's.
 use native.Mathlib.Omega.{arith}
 use mathlib.Core.Path.{_≡_, refl, sym, _∙_}
-use Rattle.canvas.specs.Calls.{dot}
+use Rattle.ledger.specs.Calls.{dot}
 use Rattle.picture.specs.Records.{dotCall}
 use borrow.Author.Needs.{needs}
 use Rattle.picture.proofs.records.dot_call.Statement.{statement}

@@ -5,7 +5,7 @@ use mathlib.Core.Path.{_≡_, refl, sym, _∙_}
 use mathlib.Core.Bool.{true, false}
 use Prim.Native.Nat.{_+_, _-_, _≤_}
 use lib.ListN.{length, take, drop}
-use Rattle.canvas.specs.Calls.{print}
+use Rattle.ledger.specs.Calls.{print}
 use Rattle.picture.specs.Fields.{stands, numberAt}
 use Rattle.picture.specs.Records.{textPlace, labelCall}
 use borrow.Author.Needs.{needs}

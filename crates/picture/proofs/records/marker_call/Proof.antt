@@ -1,7 +1,7 @@
 -- The fields are the call's.
 use native.Mathlib.Omega.{arith}
 use mathlib.Core.Path.{_≡_, refl, sym, _∙_}
-use Rattle.canvas.specs.Calls.{marker}
+use Rattle.ledger.specs.Calls.{marker}
 use Rattle.picture.specs.Records.{markerCall}
 use borrow.Author.Needs.{needs}
 use Rattle.picture.proofs.records.marker_call.Statement.{statement}

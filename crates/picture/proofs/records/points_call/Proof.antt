@@ -1,12 +1,31 @@
--- The pairs read from the bytes are the call's.
-use Rattle.canvas.specs.Calls.{points}
-use lib.ListN.{take}
-use Rattle.picture.specs.Records.{pointsCall}
+-- The pairs in the bytes are the call's, and what `points` does with a lent list is done with them.
+use Rattle.ledger.specs.Calls.{points}
+use Rattle.picture.specs.declared.fields.Number.{Number}
+use Rattle.picture.specs.Records.{pairsAt, pointsCall}
+use Rattle.pairs.proofs.PointsSteps.{RefusalSays, closes-refused, closes-drawn}
+use Rattle.picture.proofs.Pairs.{length-pairs-at, points-is}
 use native.Mathlib.Omega.{arith}
-use mathlib.Core.Path.{_≡_, _∙_}
+use lib.ListN.{length}
+use mathlib.Core.Path.{_≡_, sym, ap, _∙_}
 use borrow.Author.Needs.{needs}
 use Rattle.picture.proofs.records.points_call.Statement.{statement}
 use Rattle.picture.proofs.records.points_call.Tie as tie
+
+abbrev start : tie.After-points-refusal → tie.Start
+start c = c .before .before .before .before .before .before .before .before
+
+-- the call that the record stands for
+the-call : (c : tie.After-points-refusal) → let count = c .before .before .before .before .pair-count in
+    points (pairsAt (start c .args .part .now) 2 (count .result)) (c .before .before .number-field .result .value) ≡ pointsCall (start c .args .map) (start c .args .part .now)
+the-call c =
+    let field = c .before .before .number-field in
+    let place = c .before .before .before .list-end .ensures in
+    points-is (start c .args .map) (start c .args .part .now) _ _ _ (c .before .before .before .before .pair-count .ensures) (place .0) (ap (λ (n : Number). n .value) (field .ensures (omega arith) (omega (arith, place .1)) .0))
+
+-- its refusal, by the number of pairs in the list
+refusal-is : (c : tie.After-points-refusal) → let count = c .before .before .before .before .pair-count in
+    RefusalSays (start c .args .canvas) (length (start c .args .cells .now)) (length (start c .args .labels .now)) (c .before .is-bad-list .result) (length (pairsAt (start c .args .part .now) 2 (count .result))) (c .before .before .number-field .result .value) (c .points-refusal .result)
+refusal-is c pairs bad long = c .points-refusal .ensures pairs bad (sym (length-pairs-at (start c .args .part .now) 2 (c .before .before .before .before .pair-count .result)) ∙ long)
 
 pair-count-requires : tie.Need-pair-count-requires
 pair-count-requires c κs = search needs
@@ -17,25 +36,58 @@ list-end-requires c κs = search needs
 number-field-requires : tie.Need-number-field-requires
 number-field-requires c κs = search needs
 
-read-pairs-requires : tie.Need-read-pairs-requires
-read-pairs-requires c κs = search needs
+is-bad-list-requires : tie.Need-is-bad-list-requires
+is-bad-list-requires c κs = rw (c .before .before .pair-count .ensures) (c .before .before .before .before .before .before .pre .0)
 
-draw-pairs-requires : tie.Need-draw-pairs-requires
-draw-pairs-requires c κs = search needs
+points-refusal-requires : tie.Need-points-refusal-requires
+points-refusal-requires c κs = search needs
+
+refused-requires : tie.Need-refused-requires
+refused-requires c κs = search needs
+
+returns : tie.Need-returns
+returns c =
+    let r = c .before .before in
+    let a = start r .args in
+    let s = closes-refused (a .canvas) (a .cells .now) (a .labels .now) _ _ _ _ _ (r .before .is-bad-list .ensures) (refusal-is r) (c .before .if1 .taken) (c .refused .ensures) in
+    (s .0 ∙ rw (the-call r), s .1 ∙ rw (the-call r))
+
+painter-for-requires : tie.Need-painter-for-requires
+painter-for-requires c κs = search needs
+
+paint-list-requires : tie.Need-paint-list-requires
+paint-list-requires c κs =
+    let r = c .before .before .before in
+    rw (r .before .before .before .before .pair-count .ensures) (r .before .before .before .before .before .before .before .before .pre)
+
+drawn-requires : tie.Need-drawn-requires
+drawn-requires c κs = search needs
 
 same-length : tie.Need-same-length
 same-length c = search needs
 
-returns : tie.Need-returns
-returns c =
-    let r = c .before .before .before .before in
-    let a = r .before .before .before .before .before .before .before .args in
-    let colour = r .before .number-field in
-    let place = r .before .before .list-end .ensures in
-    let count = r .before .before .before .pair-count in
-    let e : points (take (count .result) (r .read-pairs .result)) (colour .result .value) ≡ pointsCall (a .map) (a .part .now) =
-    rw (r .read-pairs .ensures, colour .ensures (omega arith) (omega (arith, place .1)) .0, place .0, count .ensures) in
-    (c .before .before .draw-pairs .ensures .0 ∙ rw (e), c .before .before .draw-pairs .ensures .1 ∙ rw (e))
+returns-2 : tie.Need-returns-2
+returns-2 c =
+    let l = c .before .before .before in
+    let e = l .before .before .before in
+    let r = e .before in
+    let a = start r .args in
+    let s = closes-drawn (a .canvas) (a .cells .now) (a .labels .now) _ _ _ _ _ _ _ _ (r .before .is-bad-list .ensures) (refusal-is r) (e .if1 .left) (l .before .before .painter-for .ensures) (l .paint-list .ensures) (c .drawn .ensures) in
+    (s .0 ∙ rw (the-call r), s .1 ∙ rw (the-call r))
 
 pub points-call-spec : {M : Type 1} → statement M
-points-call-spec = tie.close (tie.spec pair-count-requires list-end-requires number-field-requires read-pairs-requires draw-pairs-requires same-length returns)
+points-call-spec =
+    tie.close
+    (tie.spec
+    pair-count-requires
+    list-end-requires
+    number-field-requires
+    is-bad-list-requires
+    points-refusal-requires
+    refused-requires
+    returns
+    painter-for-requires
+    paint-list-requires
+    drawn-requires
+    same-length
+    returns-2)

@@ -1,7 +1,7 @@
 -- The pairs so far are those of the bytes.
 use native.Mathlib.Omega.{arith}
 use mathlib.Core.Path.{_≡_, refl}
-use Prim.Native.Nat.{_-_, _≤_}
+use Prim.Native.Nat.{_+_, _-_, _*_, _≤_}
 use lib.ListN.{length, take, length-set}
 use Rattle.picture.specs.Records.{pairsAt}
 use Rattle.picture.proofs.Pairs.{pairs-next}
@@ -10,10 +10,16 @@ use Rattle.picture.proofs.records.read_pairs.Statement.{statement}
 use Rattle.picture.proofs.records.read_pairs.Tie as tie
 
 abbrev Inv-loop : tie.InvT-loop
-Inv-loop part count pairs₀ i₀ pairs i = (i ≤ count) × (length pairs ≡ 4096) × (take i pairs ≡ pairsAt part 2 i)
+Inv-loop part from count pairs₀ start i₀ pairs i = (i ≤ count) × (length pairs ≡ 16) × (take i pairs ≡ pairsAt part start i)
 
 abbrev μ-loop : tie.MeasureT-loop
-μ-loop part count pairs₀ i₀ pairs i = count - i
+μ-loop part from count pairs₀ start i₀ pairs i = count - i
+
+mul-start : tie.Need-mul-start Inv-loop μ-loop
+mul-start c = search needs
+
+add-start : tie.Need-add-start Inv-loop μ-loop
+add-start c = search needs
 
 loop-holds : tie.Need-loop-holds Inv-loop μ-loop
 loop-holds c = (omega arith, refl, refl)
@@ -43,7 +49,7 @@ loop-again : tie.Need-loop-again Inv-loop μ-loop
 loop-again c =
     let l = c .before .before .loop in
     let a = c .before .before .before .before .args in
-    (omega (arith, c .before .loop-test .taken), simp length-set (l .inv .1), pairs-next (a .part .now) (l .pairs) (l .i) _ (omega (arith, c .before .loop-test .taken)) (l .inv .2) (c .pair-at .ensures))
+    (omega (arith, c .before .loop-test .taken), simp length-set (l .inv .1), pairs-next (a .part .now) (2 + 16 * a .from) (l .pairs) (l .i) _ (omega (arith, c .before .loop-test .taken)) (l .inv .2) (c .pair-at .ensures))
 
 returns : tie.Need-returns Inv-loop μ-loop
 returns c =
@@ -57,6 +63,8 @@ read-pairs-spec =
     (tie.spec
     Inv-loop
     μ-loop
+    mul-start
+    add-start
     loop-holds
     mul-pair-at
     add-pair-at

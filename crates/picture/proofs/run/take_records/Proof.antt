@@ -5,7 +5,7 @@ use native.Mathlib.Omega.{arith}
 use mathlib.Core.Path.{_≡_, refl, sym, _∙_, ap}
 use Prim.Native.Nat.{_-_}
 use lib.ListN.{length}
-use Rattle.canvas.specs.Contracts.{given}
+use Rattle.ledger.specs.Contracts.{given}
 use borrow.Author.Needs.{needs}
 use Rattle.picture.proofs.run.take_records.Statement.{statement}
 use Rattle.picture.proofs.run.take_records.Tie as tie

@@ -1,32 +1,36 @@
--- After k turns the walk has made k steps, and the columns of its first k dots are painted: at most 2 ^ 32 dots each, so that their number fits.
+-- After k turns the course has made k steps, and the columns of its first k dots are painted: at most 2 ^ 32 dots each, so that their number fits.
 use Prim.Native.Nat.{_-_, _*_, _^_, _≤_}
 use mathlib.Core.Path.{_≡_, refl, ap, _∙_}
 use native.Mathlib.Omega.{arith}
 use lib.ListN.{length}
 use borrow.Author.Needs.{needs}
-use Rattle.walk.specs.Walk.{steps, walkDots}
+use Rattle.walk.specs.Walk.{Fits16}
+use Rattle.walk.specs.Course.{courseAfter, courseDots}
+use Rattle.walk.proofs.CourseDots.{next-course, course-over}
 use Rattle.shapes.specs.Shapes.{flat, columnTo}
-use Rattle.shapes.proofs.PaintLists.{Painted, painted-same, length-column, next-step, walk-over, fill-next}
+use Rattle.shapes.proofs.PaintLists.{Painted, painted-same, column-le}
+use Rattle.shapes.proofs.CourseLoops.{fill-next}
 use Rattle.shapes.proofs.painters.paint_fill.Statement.{statement}
 use Rattle.shapes.proofs.painters.paint_fill.Tie as tie
 
 abbrev Inv-loop : tie.InvT-loop
-Inv-loop cells₀ p fill w₀ n painted₀ k₀ cells w painted k =
-    (k ≤ n) × (length cells ≡ length cells₀) × (w ≡ steps k w₀) × (painted ≤ k * 2 ^ 32) × Painted p cells₀ (flat (columnTo fill) (walkDots w₀ k)) painted cells
+Inv-loop cells₀ p fill n w₀ painted₀ k₀ cells w painted k =
+    (k ≤ n) × (length cells ≡ length cells₀) × (w ≡ courseAfter k w₀) × (painted ≤ k * 2 ^ 32) × Painted p cells₀ (flat (columnTo fill) (courseDots w₀ k)) painted cells
 
 abbrev μ-loop : tie.MeasureT-loop
-μ-loop cells₀ p fill w₀ n painted₀ k₀ cells w painted k = n - k
+μ-loop cells₀ p fill n w₀ painted₀ k₀ cells w painted k = n - k
 
 column-fits : (c : tie.After-slice-known2 Inv-loop μ-loop) → c .before .before .paint-column .result ≤ 2 ^ 32
 column-fits c =
     let s = c .before .before in
-    omega (arith, s .paint-column .ensures .0, length-column (s .before .before .before .before .before .before .before .before .args .fill) (s .before .before .dot .result), s .before .before .dot .ok)
+    let d = s .before .before .dot in
+    column-le (s .before .before .before .before .before .before .before .args .fill) (d .result) _ (s .paint-column .ensures .0) (omega arith) (omega (arith, d .ok))
+
+fits : (s : tie.Start Inv-loop μ-loop) → Fits16 (s .args .e)
+fits s = record { x1 = omega arith; y1 = omega arith; x2 = omega arith; y2 = omega arith }
 
 new-requires : tie.Need-new-requires Inv-loop μ-loop
 new-requires c κs = search needs
-
-count-requires : tie.Need-count-requires Inv-loop μ-loop
-count-requires c κs = search needs
 
 loop-holds : tie.Need-loop-holds Inv-loop μ-loop
 loop-holds c = (omega arith, refl, refl, omega arith, (refl, refl))
@@ -40,7 +44,7 @@ paint-column-requires c κs = search needs
 add-painted : tie.Need-add-painted Inv-loop μ-loop
 add-painted c =
     let h = c .before .before .before .before .before .before in
-    omega (arith, column-fits c, h .before .before .new .ok)
+    omega (arith, column-fits c, h .before .new .ok)
 
 step-requires : tie.Need-step-requires Inv-loop μ-loop
 step-requires c κs = search needs
@@ -55,11 +59,11 @@ loop-again : tie.Need-loop-again Inv-loop μ-loop
 loop-again c =
     let s = c .before .before .before in
     let h = s .before .before .before .before in
-    let w₀ = h .before .before .new .result in
-    let a = h .before .before .before .before .args in (
+    let w₀ = h .before .new .result in
+    let a = h .before .before .before .args in (
       omega arith,
       s .paint-column .kept .0 ∙ h .loop .inv .1,
-      next-step w₀ _ _ (h .loop .k) (h .loop .inv .2) (c .step .ensures),
+      next-course w₀ _ _ (h .loop .k) (h .loop .inv .2) (c .step .ensures),
       omega (arith, column-fits (c .before)),
       fill-next (a .p) (columnTo (a .fill)) _ _ _ w₀ _ (h .loop .k) _ _ _ (h .loop .inv .2) (s .before .before .dot .ensures) (h .loop .inv .4) (s .paint-column .ensures),
     )
@@ -69,11 +73,13 @@ same-length c = search needs
 
 returns : tie.Need-returns Inv-loop μ-loop
 returns c =
-    let a = c .before .before .before .before .before in
-    let g : c .before .loop .k ≡ c .before .before .count .result = omega arith in
-    painted-same (a .args .p) _ _ _ _ _ _
-    (ap (flat (columnTo (a .args .fill))) (walk-over (a .args .e) (record { x1 = omega arith; y1 = omega arith; x2 = omega arith; y2 = omega arith }) _ _ _ (c .before .before .before .new .ensures) (c .before .before .count .ensures) g))
-    refl (c .before .loop .inv .4)
+    let h = c .before in
+    let s = h .before .before .before in
+    let a = s .args in
+    let g : h .loop .k ≡ h .before .new .result .count = omega arith in
+    painted-same (a .p) _ _ _ _ _ _
+    (ap (flat (columnTo (a .fill))) (course-over (a .e) (fits s) _ _ _ (h .before .new .ensures) refl g))
+    refl (h .loop .inv .4)
 
 pub paint-fill-spec : {M : Type 1} → statement M
 paint-fill-spec =
@@ -82,7 +88,6 @@ paint-fill-spec =
     Inv-loop
     μ-loop
     new-requires
-    count-requires
     loop-holds
     dot-requires
     paint-column-requires

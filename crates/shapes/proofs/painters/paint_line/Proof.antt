@@ -7,19 +7,24 @@ use Rattle.walk.specs.Clip.{clipOf}
 use Rattle.shapes.specs.Point.{pointOf}
 use Rattle.shapes.specs.declared.point.Found.the-variants.{At}
 use Rattle.shapes.proofs.PaintLists.{painted-none, painted-same}
-use Rattle.shapes.proofs.LineCases.{line-clipped, line-no-first, line-no-second, line-between}
+use Rattle.shapes.proofs.LineCases.{line-clipped, line-no-first, line-no-second, line-between, found-is}
 use Rattle.shapes.proofs.painters.paint_line.Statement.{statement}
 use Rattle.shapes.proofs.painters.paint_line.Tie as tie
 
 -- what is left of the line, and the dot of its first end
+abbrev start : tie.After-clipped → tie.Start
+start c = c .before .before .before .before .before
+
 abbrev kept : tie.After-clipped → Segment
 kept c = c .clipped .given .0 .0
 
-clipped-is : (c : tie.After-clipped) → clipOf (c .before .before .before .before .before .args .p .view .bounds) (c .before .before .before .before .before .args .s) ≡ Line (kept c) (c .clipped .given .0 .1 .0)
+clipped-is : (c : tie.After-clipped) → clipOf (start c .args .p .view .bounds) (start c .args .s) ≡ Line (kept c) (c .clipped .given .0 .1 .0)
 clipped-is c = sym (c .before .before .clip-line .ensures) ∙ c .clipped .given .1
 
-first-is : (c : tie.After-first) → pointOf (c .before .before .before .before .before .before .before .before .before .args .p .view) (kept (c .before .before .before .before) .x1) (kept (c .before .before .before .before) .y1) ≡ At (c .first .given .0 .0) (c .first .given .0 .1 .0)
-first-is c = sym (c .before .before .point .ensures) ∙ c .first .given .1
+first-is : (c : tie.After-first) → let k = c .before .before .before .before .before in pointOf (start k .args .p .view) (kept k .x1) (kept k .y1) ≡ At (c .first .given .0 .0) (c .first .given .0 .1 .0)
+first-is c =
+    let k = c .before .before .before .before .before in
+    found-is (start k .args .p .view) _ _ _ (c .before .before .before .frame-of .ensures) (c .before .before .spot .ensures) (c .first .given .1)
 
 clip-line-requires : tie.Need-clip-line-requires
 clip-line-requires c κs = search needs
@@ -36,8 +41,11 @@ returns c =
     let a = s .before .before .before .args in
     painted-none (a .p) (a .cells .now) _ (line-clipped (a .p .view) (a .s) (sym (s .clip-line .ensures) ∙ c .enum-told .given .1))
 
-point-requires : tie.Need-point-requires
-point-requires c κs = search needs
+frame-of-requires : tie.Need-frame-of-requires
+frame-of-requires c κs = search needs
+
+spot-requires : tie.Need-spot-requires
+spot-requires c κs = search needs
 
 enum-known-first : tie.Need-enum-known-first
 enum-known-first c = search needs
@@ -48,12 +56,12 @@ enum-told-2 c = search needs
 returns-2 : tie.Need-returns-2
 returns-2 c =
     let f = c .before .before in
-    let k = f .before .before in
-    let a = k .before .before .before .before .before .args in
-    painted-none (a .p) (a .cells .now) _ (line-no-first (a .p .view) (a .s) (clipped-is k) (sym (f .point .ensures) ∙ c .enum-told2 .given .1))
+    let k = f .before .before .before in
+    let a = start k .args in
+    painted-none (a .p) (a .cells .now) _ (line-no-first (a .p .view) (a .s) (clipped-is k) (found-is (a .p .view) _ _ _ (f .before .frame-of .ensures) (f .spot .ensures) (c .enum-told2 .given .1)))
 
-point-requires-2 : tie.Need-point-requires-2
-point-requires-2 c κs = search needs
+spot-requires-2 : tie.Need-spot-requires-2
+spot-requires-2 c κs = search needs
 
 enum-known-second : tie.Need-enum-known-second
 enum-known-second c = search needs
@@ -65,9 +73,10 @@ returns-3 : tie.Need-returns-3
 returns-3 c =
     let g = c .before .before in
     let f = g .before .before in
-    let k = f .before .before .before .before in
-    let a = k .before .before .before .before .before .args in
-    painted-none (a .p) (a .cells .now) _ (line-no-second (a .p .view) (a .s) (clipped-is k) (first-is f) (sym (g .point2 .ensures) ∙ c .enum-told3 .given .1))
+    let n = f .before .before .before in
+    let k = n .before .before in
+    let a = start k .args in
+    painted-none (a .p) (a .cells .now) _ (line-no-second (a .p .view) (a .s) (clipped-is k) (first-is f) (found-is (a .p .view) _ _ _ (n .frame-of .ensures) (g .spot2 .ensures) (c .enum-told3 .given .1)))
 
 paint-walk-requires : tie.Need-paint-walk-requires
 paint-walk-requires c κs = search needs
@@ -79,9 +88,12 @@ returns-4 : tie.Need-returns-4
 returns-4 c =
     let g = c .before .before .before .before .before in
     let f = g .before .before .before .before in
-    let k = f .before .before .before .before in
-    let a = k .before .before .before .before .before .args in
-    painted-same (a .p) _ _ _ _ _ _ (sym (line-between (a .p .view) (a .s) (clipped-is k) (first-is f) (sym (g .before .before .point2 .ensures) ∙ g .second .given .1))) refl (c .before .before .paint-walk .ensures)
+    let n = f .before .before .before in
+    let k = n .before .before in
+    let a = start k .args in
+    painted-same (a .p) _ _ _ _ _ _
+    (sym (line-between (a .p .view) (a .s) (clipped-is k) (first-is f) (found-is (a .p .view) _ _ _ (n .frame-of .ensures) (g .before .before .spot2 .ensures) (g .second .given .1))))
+    refl (c .before .before .paint-walk .ensures)
 
 pub paint-line-spec : {M : Type 1} → statement M
 paint-line-spec =
@@ -91,11 +103,12 @@ paint-line-spec =
     enum-known-clipped
     enum-told
     returns
-    point-requires
+    frame-of-requires
+    spot-requires
     enum-known-first
     enum-told-2
     returns-2
-    point-requires-2
+    spot-requires-2
     enum-known-second
     enum-told-3
     returns-3

@@ -1,7 +1,7 @@
 -- One law for each of the two directions.
 use mathlib.Core.Path.{_∙_}
 use Rattle.walk.proofs.Decision.{from-bits}
-use Rattle.walk.proofs.Course.{new-shallow, new-steep}
+use Rattle.walk.proofs.WalkMade.{new-shallow, new-steep}
 use borrow.Author.Needs.{needs}
 use Rattle.walk.proofs.bresenham.Walk.new.Statement.{statement}
 use Rattle.walk.proofs.bresenham.Walk.new.Tie as tie

@@ -8,7 +8,7 @@ use mir.Val.{toZ, ofZ}
 use Rattle.walk.specs.Walk.{onWay}
 use Rattle.walk.specs.declared.bresenham.Walk.{Walk}
 use Rattle.walk.proofs.Decision.{from-bits, small-mag}
-use Rattle.walk.proofs.Course.{OnWay, on-way, step-made, step-ended}
+use Rattle.walk.proofs.WalkMade.{OnWay, on-way, step-made, step-ended}
 use borrow.Author.Needs.{needs}
 use Rattle.walk.proofs.bresenham.Walk.step.Statement.{statement}
 use Rattle.walk.proofs.bresenham.Walk.step.Tie as tie

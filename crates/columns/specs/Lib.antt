@@ -1,0 +1,2 @@
+-- What a reader must believe of columns of dots.
+pub mod Columns

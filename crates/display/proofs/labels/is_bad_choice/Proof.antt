@@ -1,0 +1,19 @@
+-- One case of the definition for each choice.
+use borrow.Author.Needs.{needs}
+use Rattle.display.proofs.labels.is_bad_choice.Statement.{statement}
+use Rattle.display.proofs.labels.is_bad_choice.Tie as tie
+
+enum-told : tie.Need-enum-told
+enum-told c = search needs
+
+enum-known-choice : tie.Need-enum-known-choice
+enum-known-choice c = search needs
+
+returns : tie.Need-returns
+returns c = search needs
+
+returns-2 : tie.Need-returns-2
+returns-2 c = rw (c .before .choice .given .1)
+
+pub is-bad-choice-spec : {M : Type 1} → statement M
+is-bad-choice-spec = tie.close (tie.spec enum-told enum-known-choice returns returns-2)

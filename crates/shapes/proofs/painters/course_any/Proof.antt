@@ -1,0 +1,70 @@
+-- After k turns the course has made k steps, and its first k dots are painted.
+use Prim.Native.Nat.{_-_, _≤_}
+use mathlib.Core.Path.{_≡_, refl}
+use native.Mathlib.Omega.{arith}
+use borrow.Author.Needs.{needs}
+use Rattle.shapes.proofs.CourseLoops.{Along, along-next, along-over}
+use Rattle.shapes.proofs.painters.course_any.Statement.{statement}
+use Rattle.shapes.proofs.painters.course_any.Tie as tie
+
+abbrev Inv-loop : tie.InvT-loop
+Inv-loop cells₀ p n w₀ k₀ cells w k = (k ≤ n) × Along p cells₀ w₀ k w cells
+
+abbrev μ-loop : tie.MeasureT-loop
+μ-loop cells₀ p n w₀ k₀ cells w k = n - k
+
+loop-holds : tie.Need-loop-holds Inv-loop μ-loop
+loop-holds c = (omega arith, (refl, refl, (refl, refl)))
+
+dot-requires : tie.Need-dot-requires Inv-loop μ-loop
+dot-requires c κs = search needs
+
+paint-requires : tie.Need-paint-requires Inv-loop μ-loop
+paint-requires c κs = search needs
+
+step-requires : tie.Need-step-requires Inv-loop μ-loop
+step-requires c κs = search needs
+
+add-k : tie.Need-add-k Inv-loop μ-loop
+add-k c = search needs
+
+loop-less : tie.Need-loop-less Inv-loop μ-loop
+loop-less c = search needs
+
+loop-again : tie.Need-loop-again Inv-loop μ-loop
+loop-again c =
+    let s = c .before .before .before in
+    let d = s .before .before .dot in
+    let h = s .before .before .before .before in
+    let a = h .before .before .args in (
+      omega arith,
+      along-next (a .p) (a .cells .now) (h .loop .cells) _ (a .c) (h .loop .w) _ (h .loop .k) (d .result) (h .loop .inv .1) (d .ensures)
+          (s .paint .ensures)
+          (c .step .ensures),
+    )
+
+same-length : tie.Need-same-length Inv-loop μ-loop
+same-length c = search needs
+
+returns : tie.Need-returns Inv-loop μ-loop
+returns c =
+    let h = c .before in
+    let a = h .before .before .args in
+    let g : h .loop .k ≡ a .c .count = omega arith in
+    along-over (a .p) (a .cells .now) (h .loop .cells) (a .c) (h .loop .w) (a .c .count) (h .loop .k) g (h .loop .inv .1)
+
+pub course-any-spec : {M : Type 1} → statement M
+course-any-spec =
+    tie.close
+    (tie.spec
+    Inv-loop
+    μ-loop
+    loop-holds
+    dot-requires
+    paint-requires
+    step-requires
+    add-k
+    loop-less
+    loop-again
+    same-length
+    returns)

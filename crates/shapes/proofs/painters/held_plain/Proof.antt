@@ -1,0 +1,90 @@
+-- After k turns the course has made k steps, and its first k dots are painted: the cell of each is held, so that setting its bit and ink paints it.
+use Prim.Native.Nat.{_-_, _≤_, _<_}
+use mathlib.Core.Path.{_≡_, refl}
+use native.Mathlib.Omega.{arith}
+use borrow.Author.Needs.{needs}
+use Rattle.grids.specs.Painting.{cellsHeld}
+use Rattle.shapes.proofs.CourseLoops.{Along, along-next, along-over, plainCell, still-held, in-store, plain-set}
+use Rattle.shapes.proofs.painters.held_plain.Statement.{statement}
+use Rattle.shapes.proofs.painters.held_plain.Tie as tie
+
+abbrev Inv-loop : tie.InvT-loop
+Inv-loop cells₀ p n w₀ k₀ cells w k = (k ≤ n) × Along p cells₀ w₀ k w cells
+
+abbrev μ-loop : tie.MeasureT-loop
+μ-loop cells₀ p n w₀ k₀ cells w k = n - k
+
+cell-held : (c : tie.After-flat-index Inv-loop μ-loop) → let h = c .before .before .before in let a = h .before .before .args in c .flat-index .result < cellsHeld (h .loop .cells) (a .p .columns) (a .p .rows)
+cell-held c =
+    let d = c .before in
+    let h = d .before .before in
+    let s = h .before .before in
+    let a = s .args in
+    still-held (a .p) (plainCell (a .p .columns)) (a .cells .now) (h .loop .cells) (a .c) (h .loop .w) (h .loop .k) _ (d .dot .result) (s .pre .1) (d .before .loop-test .taken) (h .loop .inv .1) (d .dot .ensures)
+    (c .flat-index .ensures)
+
+loop-holds : tie.Need-loop-holds Inv-loop μ-loop
+loop-holds c = (omega arith, (refl, refl, (refl, refl)))
+
+dot-requires : tie.Need-dot-requires Inv-loop μ-loop
+dot-requires c κs = search needs
+
+flat-index-requires : tie.Need-flat-index-requires Inv-loop μ-loop
+flat-index-requires c κs = search needs
+
+set-held-requires : tie.Need-set-held-requires Inv-loop μ-loop
+set-held-requires c κs =
+    let i = c .before in
+    let h = i .before .before .before in
+    let a = h .before .before .args in
+    in-store (h .loop .cells) (a .p .columns) (a .p .rows) _ (cell-held i)
+
+step-requires : tie.Need-step-requires Inv-loop μ-loop
+step-requires c κs = search needs
+
+add-k : tie.Need-add-k Inv-loop μ-loop
+add-k c = search needs
+
+loop-less : tie.Need-loop-less Inv-loop μ-loop
+loop-less c = search needs
+
+loop-again : tie.Need-loop-again Inv-loop μ-loop
+loop-again c =
+    let s = c .before .before .before in
+    let i = s .before .before in
+    let d = i .before .dot in
+    let h = i .before .before .before in
+    let b = h .before .before in
+    let a = b .args in (
+      omega arith,
+      along-next (a .p) (a .cells .now) (h .loop .cells) _ (a .c) (h .loop .w) _ (h .loop .k) (d .result) (h .loop .inv .1) (d .ensures)
+          (plain-set (a .p) (h .loop .cells) _ _ _ (d .result) (cell-held i) (s .set-held .ensures) (b .pre .0) (i .flat-index .ensures) refl)
+          (c .step .ensures),
+    )
+
+same-length : tie.Need-same-length Inv-loop μ-loop
+same-length c = search needs
+
+returns : tie.Need-returns Inv-loop μ-loop
+returns c =
+    let h = c .before in
+    let a = h .before .before .args in
+    let g : h .loop .k ≡ a .c .count = omega arith in
+    along-over (a .p) (a .cells .now) (h .loop .cells) (a .c) (h .loop .w) (a .c .count) (h .loop .k) g (h .loop .inv .1)
+
+pub held-plain-spec : {M : Type 1} → statement M
+held-plain-spec =
+    tie.close
+    (tie.spec
+    Inv-loop
+    μ-loop
+    loop-holds
+    dot-requires
+    flat-index-requires
+    set-held-requires
+    step-requires
+    add-k
+    loop-less
+    loop-again
+    same-length
+    returns)

@@ -1,0 +1,16 @@
+-- Each sum is the definition's.
+use borrow.Author.Needs.{needs}
+use Rattle.walk.proofs.course.Course.step.Statement.{statement}
+use Rattle.walk.proofs.course.Course.step.Tie as tie
+
+wrapping-add-u64-requires : tie.Need-wrapping-add-u64-requires
+wrapping-add-u64-requires c κs = search needs
+
+wrapping-add-u64-requires-2 : tie.Need-wrapping-add-u64-requires-2
+wrapping-add-u64-requires-2 c κs = search needs
+
+returns : tie.Need-returns
+returns c = simp (c .before .wrapping-add-u64 .ensures, c .wrapping-add-u642 .ensures)
+
+pub step-spec : {M : Type 1} → statement M
+step-spec = tie.close (tie.spec wrapping-add-u64-requires wrapping-add-u64-requires-2 returns)
