@@ -8,7 +8,7 @@ use lib.Ieee.{Float}
 use lib.ListN.{getD}
 use Rattle.angles.specs.Angles.{cosAt, sinAt, anglesFrom, angleTable}
 
-further : (k j : ℕ) → suc k + j ≡ k + suc j
+pub further : (k j : ℕ) → suc k + j ≡ k + suc j
 further k j = suc-add k j ∙ sym (add-suc k j)
 
 twice : (j : ℕ) → suc j * 2 ≡ suc (suc (j * 2))

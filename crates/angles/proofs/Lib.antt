@@ -1,2 +1,3 @@
--- Where the table has each angle's cosine and sine, which crates above cite.
+-- Where the table has each angle's cosine and sine, and their sizes, which crates above cite.
 pub mod AnglePlaces
+pub mod AngleSizes

@@ -32,18 +32,19 @@ use limits::state::state;
 use shapes::painters::Painter;
 use shapes::painters::Shape;
 use shapes::painters::paint_shape;
-use shapes::point::Found;
-use shapes::point::label_place;
-use shapes::point::point;
-use shapes::point::view_of;
+use view::point::Found;
+use view::point::label_place;
+use view::point::point;
+use view::point::view_of;
 use walk::clip::Bounds;
 ghost use mathlib.Core.Path.{_≡_};
 ghost use mathlib.Core.List.{List};
 ghost use Prim.Native.Nat.{_+_, _≤_, _<_, _^_};
 ghost use lib.ListN.{length};
-ghost use Rattle.shapes.specs.Limits.{maxColumns, maxRows, maxDraws, reset};
+ghost use Rattle.view.specs.Limits.{maxColumns, maxRows, maxDraws, reset};
 ghost use Rattle.shapes.specs.declared.painters.Pair.{Pair};
-ghost use Rattle.ledger.specs.Calls.{badPairs, openRefusal, draw, points, dot, layer, marker, print, render};
+ghost use Rattle.shapes.specs.declared.painters.Shape.{Shape};
+ghost use Rattle.ledger.specs.Calls.{badShape, badPairs, openRefusal, draw, points, dot, layer, marker, print, render};
 ghost use Rattle.ledger.specs.Model.{zeroCanvas, openCells, drawnCanvas, markedCells, renderedCells, stateAfter};
 ghost use Rattle.ledger.specs.Contracts.{given, refusalBy, calledOn, screenOn, openCalled, painterOf};
 ghost use Rattle.ledger.specs.PointCall.{pointedOn};
@@ -81,14 +82,15 @@ fn open_refusal(
     0
 }
 
-fn draw_refusal(c: Canvas, cells: usize, labels: usize, shape: Shape, colour: u32) -> u8
-    ensures { λ r. ⌜ r ≡ refusalBy c cells labels (draw shape colour) ⌝ }
+// Of a draw: of its shape it is enough whether a number is bad.
+pub fn draw_refusal(c: Canvas, cells: usize, labels: usize, bad: bool, colour: u32) -> u8
+    ensures { λ r. ⌜ ((shape : Shape) → bad ≡ badShape shape → r ≡ refusalBy c cells labels (draw shape colour)) ⌝ }
 {
     let s = state(c, cells, labels);
     if s != 0 {
         return s;
     }
-    if is_bad_shape(shape) {
+    if bad {
         return 2;
     }
     if is_bad_colour(colour) {
@@ -349,7 +351,8 @@ pub fn draw(canvas: Canvas, cells: &mut [u32], labels: &[u32], shape: Shape, col
     ensures { λ r. ⌜ (r ≡ calledOn (given canvas (now (cells .entry)) (now (labels .entry))) (draw shape colour))
         × (now (cells .exit) ≡ stateAfter (given canvas (now (cells .entry)) (now (labels .entry))) (draw shape colour) .cells) ⌝ }
 {
-    let n = draw_refusal(canvas, cells.len(), labels.len(), shape, colour);
+    let bad = is_bad_shape(shape);
+    let n = draw_refusal(canvas, cells.len(), labels.len(), bad, colour);
     if n != 0 {
         return refused(canvas, n);
     }

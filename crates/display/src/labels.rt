@@ -1,11 +1,11 @@
 // The label store: what a print is refused on, and how its label is kept.
 use ledger::labels::Choice;
-use shapes::point::Found;
+use view::point::Found;
 ghost use mathlib.Core.Path.{_≡_};
 ghost use mathlib.Core.Bool.{false};
 ghost use Prim.Native.Nat.{_+_, _*_, _≤_};
 ghost use lib.ListN.{length};
-ghost use Rattle.shapes.specs.Limits.{maxText};
+ghost use Rattle.view.specs.Limits.{maxText};
 ghost use Rattle.ledger.specs.Calls.{badChoice, badText};
 ghost use Rattle.ledger.specs.Ledger.{choiceWord};
 ghost use Rattle.ledger.specs.Labels.{columnWord, rowWord, putLabel};

@@ -8,7 +8,7 @@ ghost use mathlib.Core.Bool.{true, false};
 ghost use Prim.Native.Nat.{ℕ, _+_, _-_, _*_, _/_, _≤_, _<_, min};
 ghost use lib.ListN.{length};
 ghost use Rattle.grids.specs.Lists.{foldl};
-ghost use Rattle.shapes.specs.Limits.{maxLabels};
+ghost use Rattle.view.specs.Limits.{maxLabels};
 ghost use Rattle.ledger.specs.Calls.{passesEdge, badScreen};
 ghost use Rattle.ledger.specs.Screen.{cellOn, putOn, orElse, layered};
 ghost use Rattle.ledger.specs.Labels.{placeOf, labelAt, heldLabels};

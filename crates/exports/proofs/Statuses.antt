@@ -7,9 +7,9 @@ use native.Mathlib.Omega.{arith}
 use lib.Dec.{ltb}
 use lib.Ieee.{Float}
 use lib.ListN.{length}
-use Rattle.shapes.specs.Point.{pointOf, viewOf}
-use Rattle.shapes.specs.declared.point.Found.{Found}
-use Rattle.shapes.specs.declared.point.Found.the-variants.{At, Nowhere}
+use Rattle.view.specs.Point.{pointOf, viewOf}
+use Rattle.view.specs.declared.point.Found.{Found}
+use Rattle.view.specs.declared.point.Found.the-variants.{At, Nowhere}
 use Rattle.ledger.specs.Calls.{Call, render, first, badPoint}
 use Rattle.ledger.specs.Ledger.{unless}
 use Rattle.ledger.specs.Model.{State, badCanvas, refusalOn}

@@ -2,7 +2,7 @@
 use Prim.Native.Nat.{ℕ}
 use lib.Ieee.{Float}
 use Rattle.walk.specs.declared.clip.Bounds.{Bounds}
-use Rattle.shapes.specs.Limits.{reset}
+use Rattle.view.specs.Limits.{reset}
 use Rattle.ledger.specs.Model.{openedCanvas}
 use Rattle.ledger.specs.PointCall.{pointedOn}
 use Rattle.ledger.specs.declared.state.Canvas.{Canvas}

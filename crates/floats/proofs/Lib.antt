@@ -3,7 +3,9 @@ pub mod Cases
 pub mod Truncation
 pub mod Sign
 pub mod InDomain
+pub mod DomainBits
 pub mod Rounding
+pub mod Monotone
 pub mod HalfAdded
 pub mod WholePart
 pub mod Samples

@@ -1,19 +1,19 @@
--- A float's whole part by one shift of its digits: below 2 ^ 53 its exponent field is at most 1075, so the shift goes down.
+-- A float's whole part by one shift of its digits, which stand at the top of a word under a leading one: from 1 on and below 2 ^ 53 its exponent field is 1023 to 1075, so the shift goes down by 11 to 63.
 -- Below 2 ^ w a float is below 2 ^ (w + 1074) in units of 2 ^ -1074. `toBits` drops all but 53 of those digits, and the leading one of the rest adds one to the field.
 use mathlib.Core.Path.{_≡_, refl, sym, ap, _∙_, subst}
 use mathlib.Core.Bool.{true, false, not}
-use Prim.Native.Nat.{ℕ, _+_, _-_, _*_, _/_, _^_, _≤_, _<_}
-use native.Mathlib.Nat.{le-of-eq, lt-of-lt-of-le, mul-one, one-mul, mul-right-comm, mul-le-mul-right, mul-lt-mul-of-pos-right, lt-of-mul-lt-mul-right, div-lt-iff-lt-mul}
+use Prim.Native.Nat.{ℕ, zero, suc, _+_, _-_, _*_, _/_, _%_, _^_, _≤_, _<_, min}
+use native.Mathlib.Nat.{le-of-eq, lt-of-lt-of-le, lt-of-not-le, mul-one, one-mul, mul-right-comm, mul-le-mul-right, mul-lt-mul-of-pos-right, lt-of-mul-lt-mul-right, mod-lt, div-eq-of-lt, div-lt-iff-lt-mul, le-div-iff-mul-le}
 use native.Mathlib.Omega.{arith}
 use lib.IntN.{pos}
 use lib.Dec.{T, ltb→lt, lt→ltb, lit≤}
-use lib.Pow.{pow-add, pow-pos}
-use lib.Bits.{bitAnd, bitOr}
+use lib.Pow.{pow-add, pow-pos, pow-mono, shl-shr, shr-shr}
+use lib.Bits.{bitAnd, bitOr, and-mask, or-block, or-shifted-r, or-zero-r}
 use lib.Ieee.{Float, nan, inf, fin, binary64, up, down, fits, isNan, toBits, le, lt, ofInt, toUnsigned}
 use lib.Ieee.Digits.{size-le}
 use lib.Ieee.Fits.{down-pos, kept-lt}
 use lib.Ieee.Exact.{HasValue}
-use lib.Ieee.Positive.{above, above-of-le}
+use lib.Ieee.Positive.{above, above-of-le, le→cross}
 use Rattle.std.proofs.num.Truncating.{at-least-one, is-no-nan, down-by, cut-down}
 use Rattle.floats.specs.Polyfills.{1·0}
 use Rattle.floats.proofs.HalfAdded.{whole-value}
@@ -71,22 +71,95 @@ field-at-most w (fin false m e) a h = field _ _ (dropped _ (size-le units (w + 1
     field : (k q : ℕ) → k ≤ w + 1021 → q < 2 ^ 53 → (0 + k * 2 ^ 52 + q) / 2 ^ 52 ≤ w + 1022
     field k q l r = omega arith
 
+-- from 1 on the whole part is not 0
+some-whole : (x : Float) → T (above x) → T (le one x) → 1 ≤ toUnsigned 64 x
+unfolding toUnsigned
+some-whole nan a h = absurd a
+some-whole (inf true) a h = absurd a
+some-whole (inf false) a h = lit≤ tt
+some-whole (fin true m e) a h = absurd a
+some-whole (fin false m e) a h = capped _ (le-div-iff-mul-le (down-pos e) .1 (plain (down e) (m * up e) (le→cross one (fin false m e) tt a h)))
+  where
+    plain : (d n : ℕ) → 1 * d ≤ n * 1 → 1 * d ≤ n
+    plain d n l = omega arith
+
+    capped : (n : ℕ) → 1 ≤ n → 1 ≤ min n (2 ^ 64 - 1)
+    capped n l = omega arith
+
+-- ---- a pattern's digits under the leading one: 53 of them, moved to the top of a word
+abbrev led : ℕ → ℕ
+led b = 2 ^ 52 + b % 2 ^ 52
+
+led-below : (b : ℕ) → led b < 2 ^ 53
+led-below b = omega arith
+
+masked : (b : ℕ) → bitOr (bitAnd b (2 ^ 52 - 1)) (2 ^ 52) ≡ led b
+masked b = rw (and-mask b 52) (or-shifted-r 1 52 (b % 2 ^ 52) (mod-lt b (pow-pos 52)))
+
+-- the bit that the leading one is put over is the field's lowest
+moved : (b : ℕ) → bitOr (b * 2 ^ 11 % 2 ^ 64) (2 ^ 63) ≡ led b * 2 ^ 11
+moved b =
+    ap (λ (n : ℕ). bitOr n (2 ^ 63)) (parts b)
+    ∙ or-block 63 (b / 2 ^ 52 % 2) 1 (b % 2 ^ 52 * 2 ^ 11) 0 (omega arith) (pow-pos 63)
+    ∙ rw (or-one (b / 2 ^ 52 % 2) (omega arith), or-zero-r (b % 2 ^ 52 * 2 ^ 11)) (omega arith)
+  where
+    parts : (b : ℕ) → b * 2 ^ 11 % 2 ^ 64 ≡ b / 2 ^ 52 % 2 * 2 ^ 63 + b % 2 ^ 52 * 2 ^ 11
+    parts b = omega arith
+
+    or-one : (h : ℕ) → h < 2 → bitOr h 1 ≡ 1
+    or-one zero l = refl
+    or-one (suc zero) l = refl
+    or-one (suc (suc h)) l = absurd (omega arith)
+
 -- ---- what the function's proof cites
 module _ (x : Float) (F : T (fits binary64 x)) (some : T (le one x)) (few : T (lt x (two-to 53))) where
-  below-2^64 : T (lt x (two-to 64))
-  below-2^64 = below-power x (two-to 53) (2 ^ 53) 64 (above-of-le one x tt some) (refl, refl) (lit≤ tt) few
+  abbrev bits : ℕ
+  bits = toBits binary64 x
 
-  pub field-at-most-1075 : toBits binary64 x / 2 ^ 52 ≤ 1075
-  field-at-most-1075 = field-at-most 53 x (above-of-le one x tt some) few
+  abbrev field : ℕ
+  field = bits / 2 ^ 52
+
+  over : T (above x)
+  over = above-of-le one x tt some
+
+  below-2^64 : T (lt x (two-to 64))
+  below-2^64 = below-power x (two-to 53) (2 ^ 53) 64 over (refl, refl) (lit≤ tt) few
+
+  field-at-most-1075 : field ≤ 1075
+  field-at-most-1075 = field-at-most 53 x over few
+
+  cut : led bits / 2 ^ (1075 - field) ≡ toUnsigned 64 x
+  cut = rw (masked bits) at (cut-down x F some below-2^64 field-at-most-1075)
+
+  -- a lower field would shift all digits out
+  field-at-least-1023 : 1023 ≤ field
+  field-at-least-1023 = lt-of-not-le (λ (l : field ≤ 1022). none (sym cut ∙ div-eq-of-lt (lt-of-lt-of-le (led-below bits) (pow-mono (far field l)))) (some-whole x over some))
+    where
+      far : (e : ℕ) → e ≤ 1022 → 53 ≤ 1075 - e
+      far e l = omega arith
+
+      none : toUnsigned 64 x ≡ 0 → 1 ≤ toUnsigned 64 x → ⊥
+      none e l = omega arith
 
   pub no-nan : T (not (isNan x))
   no-nan = is-no-nan x F some below-2^64
 
-  pub shift-below-64 : 1075 - toBits binary64 x / 2 ^ 52 < 64
-  shift-below-64 = down-by x F some below-2^64
+  pub field-at-most-1086 : field ≤ 1086
+  field-at-most-1086 = omega (arith, field-at-most-1075)
 
-  pub shifted-digits : bitOr (bitAnd (toBits binary64 x) (2 ^ 52 - 1)) (2 ^ 52) / 2 ^ (1075 - toBits binary64 x / 2 ^ 52) ≡ toUnsigned 64 x
-  shifted-digits = cut-down x F some below-2^64 field-at-most-1075
+  pub shift-below-64 : 1086 - field < 64
+  shift-below-64 = omega (arith, field-at-least-1023)
+
+  pub shifted-digits : bitOr (bits * 2 ^ 11 % 2 ^ 64) (2 ^ 63) / 2 ^ (1086 - field) ≡ toUnsigned 64 x
+  shifted-digits =
+      ap (λ (n : ℕ). n / 2 ^ (1086 - field)) (moved bits)
+      ∙ ap (λ (n : ℕ). led bits * 2 ^ 11 / 2 ^ n) (apart field field-at-most-1075)
+      ∙ sym (shr-shr (led bits * 2 ^ 11) 11 (1075 - field))
+      ∙ ap (λ (n : ℕ). n / 2 ^ (1075 - field)) (shl-shr (led bits) 11)
+      ∙ cut
+    where
+      apart : (e : ℕ) → e ≤ 1075 → 1086 - e ≡ 11 + (1075 - e)
+      apart e l = omega arith
 
 -- what the function asks, from the tests of one that calls it
 pub from-one-to-2^53 : (x : Float) (n : ℕ) → n < 2 ^ 16 → le 1·0 x ≡ true → lt x (ofInt binary64 (pos n)) ≡ true → T (le one x) × T (lt x (two-to 53))

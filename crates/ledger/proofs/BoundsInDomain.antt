@@ -6,7 +6,7 @@ use Rattle.floats.specs.Domain.{inDomain}
 use Rattle.floats.proofs.Cases.{and-true-left, and-true-right}
 use Rattle.walk.specs.declared.clip.Bounds.{Bounds}
 use Rattle.ledger.specs.Calls.{badBounds}
-use Rattle.shapes.proofs.ClampIdle.{InDomain}
+use Rattle.view.proofs.ClampIdle.{InDomain}
 
 pub bounds-in-domain : (b : Bounds) → badBounds b ≡ false → InDomain b
 bounds-in-domain b h =

@@ -10,7 +10,7 @@ use borrow.Author.Tests.{ltb-false, le-ltb, not-false}
 use Rattle.floats.proofs.Cases.{or-false-left, or-false-right}
 use Rattle.grids.specs.Markers.{isMarker}
 use Rattle.grids.specs.Layer.{blankOf}
-use Rattle.shapes.specs.Limits.{maxColumns, maxRows, maxDraws, maxPainted, maxLabels}
+use Rattle.view.specs.Limits.{maxColumns, maxRows, maxDraws, maxPainted, maxLabels}
 use Rattle.ledger.specs.Calls.{Opening, Call, layer, badSize, badBounds, badColour, refusal, openRefusal}
 use Rattle.ledger.specs.Model.{State, openingOf, cellCount, badCanvas, shortStores, stateRefusal, orRefusal, refusalOn, openedCanvas, zeroCanvas, openCells, stateAfter, acceptedOn}
 use Rattle.ledger.specs.Contracts.{given, refusalBy, acceptedAnswer, answerOn, calledOn, openCalled}

@@ -4,8 +4,8 @@ use native.Mathlib.Nat.{le-trans}
 use lib.Dec.{lit≤}
 use lib.ListN.{length}
 use Rattle.walk.specs.declared.clip.Bounds.{Bounds}
-use Rattle.shapes.specs.Limits.{maxColumns, maxRows, maxPainted, maxPairs}
-use Rattle.shapes.specs.Point.{viewOf}
+use Rattle.view.specs.Limits.{maxColumns, maxRows, maxPainted, maxPairs}
+use Rattle.view.specs.Point.{viewOf}
 use Rattle.shapes.proofs.DotCounts.{pairs-count, shape-few, view-small}
 use Rattle.ledger.specs.Calls.{Call, draw, points, dot, layer, marker, print, render, callDots}
 

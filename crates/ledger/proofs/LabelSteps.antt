@@ -7,9 +7,9 @@ use native.Mathlib.Omega.{arith}
 use lib.Ieee.{Float}
 use lib.ListN.{length}
 use Rattle.grids.specs.Lists.{foldl}
-use Rattle.shapes.specs.Limits.{maxText, maxLabels}
-use Rattle.shapes.specs.Point.{labelPlace}
-use Rattle.shapes.specs.declared.point.Found.{Found}
+use Rattle.view.specs.Limits.{maxText, maxLabels}
+use Rattle.view.specs.Point.{labelPlace}
+use Rattle.view.specs.declared.point.Found.{Found}
 use Rattle.ledger.specs.Labels.{putLabel, heldLabels}
 use Rattle.ledger.specs.Calls.{print, render, badPoint, badChoice, passesEdge, badScreen, refusal}
 use Rattle.ledger.specs.Ledger.{choiceWord}

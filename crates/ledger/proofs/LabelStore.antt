@@ -8,8 +8,8 @@ use lib.ListN.{getD, length, set, length-set}
 use lib.Seq.{sets, length-sets, getD-set-same, getD-set-other}
 use Rattle.ledger.specs.Screen.{Placed}
 use Rattle.ledger.specs.Labels.{columnWord, rowWord, placeOf, wordsFrom, labelAt, putLabel, heldLabels}
-use Rattle.shapes.specs.declared.point.Found.{Found}
-use Rattle.shapes.specs.declared.point.Found.the-variants.{At, Nowhere}
+use Rattle.view.specs.declared.point.Found.{Found}
+use Rattle.view.specs.declared.point.Found.the-variants.{At, Nowhere}
 
 place-of-words : (f : Found) → placeOf (columnWord f) (rowWord f) ≡ f
 place-of-words (At column row) = refl

@@ -5,7 +5,7 @@ use Prim.Native.Nat.{ℕ, _+_, _*_, _^_, _≤_, _<_}
 use native.Mathlib.Omega.{arith}
 use lib.ListN.{length}
 use borrow.Author.Tests.{ltb-false}
-use Rattle.shapes.specs.Limits.{maxColumns, maxRows, maxDraws, maxPainted, reset}
+use Rattle.view.specs.Limits.{maxColumns, maxRows, maxDraws, maxPainted, reset}
 use Rattle.shapes.specs.Drawing.{paintedBy}
 use Rattle.shapes.specs.declared.painters.Painter.{Painter}
 use Rattle.ledger.specs.Calls.{Call, draw, points, dot, badShape, badPairs, badColour, refusal, callDots}

@@ -10,7 +10,7 @@ use lib.ListN.{length}
 use borrow.Author.Tests.{ltb-false, leb-true, leb-false, lt-leb, eqb-true, not-false}
 use Rattle.floats.proofs.Cases.{and-true-left, and-true-right, or-false-left, or-false-right}
 use Rattle.grids.specs.Markers.{isMarker}
-use Rattle.shapes.specs.Limits.{maxColumns, maxRows, maxDraws, maxPairs, maxLabels, maxText}
+use Rattle.view.specs.Limits.{maxColumns, maxRows, maxDraws, maxPairs, maxLabels, maxText}
 use Rattle.shapes.specs.declared.painters.Pair.{Pair}
 use Rattle.ledger.specs.Calls.{Opening, Call, draw, points, dot, layer, marker, print, render, badSize, badBounds, badColour, badShape, badPairs, badPoint, badChoice, badText, badBytes, passesEdge, badScreen, refusal, openRefusal}
 use Rattle.shapes.specs.declared.painters.Shape.{Shape}

@@ -11,8 +11,8 @@ use Rattle.walk.specs.declared.bresenham.Dot.{Dot}
 use Rattle.grids.specs.Lists.{keep}
 use Rattle.grids.specs.Dots.{Inked}
 use Rattle.grids.specs.Painting.{inked}
-use Rattle.shapes.specs.Limits.{maxDraws}
-use Rattle.shapes.specs.Point.{viewOf}
+use Rattle.view.specs.Limits.{maxDraws}
+use Rattle.view.specs.Point.{viewOf}
 use Rattle.ledger.specs.Calls.{Opening, Call, draw, points, dot, layer, marker, print, render, refusal, callDots}
 use Rattle.ledger.specs.Ledger.{Label, Ledger, refusalIn, withDots, withLabel, inkOf, addedDots, accepted, Reply, refused, painted, done, shown, reply, replyUnless, ledgerAfter, ledgerReply, ledgerReplies}
 use Rattle.ledger.specs.Promise.{firstShown, isAccepted, NoRefusal, Reordered, Every, nil, cons, OfColour, isPrint}

@@ -15,8 +15,8 @@ use Rattle.grids.specs.Lists.{foldl, over, lastWord}
 use Rattle.grids.specs.declared.layer.LayerCell.{LayerCell}
 use Rattle.ledger.specs.Screen.{ScreenCell, cellOn, putOn, orElse, layered, Placed, covers, labelSymbol, labelForeground, labelled, inArea}
 use Rattle.ledger.specs.Model.{cellCount, puts, spot, pictureAt, laidScreen, fittingAt, fitting, columnOf, rowOf, lettered, writtenLabel, renderedScreen}
-use Rattle.shapes.specs.declared.point.Found.{Found}
-use Rattle.shapes.specs.declared.point.Found.the-variants.{At, Nowhere}
+use Rattle.view.specs.declared.point.Found.{Found}
+use Rattle.view.specs.declared.point.Found.the-variants.{At, Nowhere}
 use Rattle.ledger.specs.declared.screen.Area.{Area}
 use Rattle.ledger.specs.declared.state.Canvas.{Canvas}
 

@@ -22,7 +22,7 @@ use Rattle.grids.specs.declared.layer.LayerCell.{LayerCell}
 use Rattle.grids.proofs.Words.{foldl-append, keep-append}
 use Rattle.grids.proofs.CellStore.{length-each, each-at}
 use Rattle.grids.proofs.DotsInCell.{paintedInked, length-paint-inked, paint-inked-at, paint-dots-inked}
-use Rattle.shapes.specs.Limits.{maxDraws, maxPainted, maxLabels}
+use Rattle.view.specs.Limits.{maxDraws, maxPainted, maxLabels}
 use Rattle.ledger.specs.Screen.{Placed}
 use Rattle.ledger.specs.Labels.{heldLabels}
 use Rattle.ledger.specs.Calls.{Opening, Call, draw, points, dot, layer, marker, print, render, refusal, openRefusal}

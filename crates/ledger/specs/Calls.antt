@@ -10,11 +10,11 @@ use Rattle.walk.specs.declared.clip.Bounds.{Bounds}
 use Rattle.walk.specs.declared.clip.Segment.{Segment}
 use Rattle.walk.specs.declared.bresenham.Dot.{Dot}
 use Rattle.grids.specs.Markers.{isMarker, isHalfBlock}
-use Rattle.shapes.specs.Limits.{maxColumns, maxRows, maxDraws, maxPairs, maxLabels, maxText, reset, cellWords, labelWords, screenWords}
+use Rattle.view.specs.Limits.{maxColumns, maxRows, maxDraws, maxPairs, maxLabels, maxText, reset, cellWords, labelWords, screenWords}
 use Rattle.shapes.specs.Shapes.{pairDots, dotAt}
 use Rattle.shapes.specs.declared.painters.Pair.{Pair}
 use Rattle.shapes.specs.Drawing.{shapeDots}
-use Rattle.shapes.specs.declared.point.View.{View}
+use Rattle.view.specs.declared.point.View.{View}
 use Rattle.shapes.specs.declared.painters.Shape.{Shape}
 use Rattle.shapes.specs.declared.painters.Shape.the-variants.{Line, FilledLine, Rectangle, Circle}
 use Rattle.ledger.specs.declared.labels.Choice.{Choice}

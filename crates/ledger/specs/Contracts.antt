@@ -4,7 +4,7 @@ use mathlib.Core.List.{List, []}
 use lib.ListN.{length}
 use Rattle.ledger.specs.Screen.{ScreenCell}
 use Rattle.ledger.specs.Labels.{heldLabels}
-use Rattle.shapes.specs.Point.{viewOf}
+use Rattle.view.specs.Point.{viewOf}
 use Rattle.ledger.specs.Calls.{Opening, Call, draw, points, dot, layer, marker, print, render, refusal, openRefusal}
 use Rattle.ledger.specs.Ledger.{Reply, refused, painted, done, shown, unless}
 use Rattle.ledger.specs.Model.{State, openingOf, stateRefusal, orRefusal, refusalOn, openCanvas, dotsOn, labelCells, screenAfter, stateAfter}

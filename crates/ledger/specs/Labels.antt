@@ -3,10 +3,10 @@ use Prim.Native.Nat.{ℕ, zero, suc, _+_, _*_, min}
 use mathlib.Core.List.{List, [], _∷_, _++_}
 use lib.ListN.{length, getD}
 use lib.Seq.{sets}
-use Rattle.shapes.specs.Limits.{maxText, labelWords}
+use Rattle.view.specs.Limits.{maxText, labelWords}
 use Rattle.ledger.specs.Screen.{Placed}
-use Rattle.shapes.specs.declared.point.Found.{Found}
-use Rattle.shapes.specs.declared.point.Found.the-variants.{At, Nowhere}
+use Rattle.view.specs.declared.point.Found.{Found}
+use Rattle.view.specs.declared.point.Found.the-variants.{At, Nowhere}
 
 abbrev pub columnWord : Found → ℕ
 columnWord Nowhere = 0

@@ -8,7 +8,7 @@ use Rattle.grids.specs.Lists.{lastWord}
 use Rattle.grids.specs.Dots.{Inked, layerSets}
 use Rattle.grids.specs.Painting.{inked}
 use Rattle.grids.specs.declared.layer.LayerCell.{LayerCell}
-use Rattle.shapes.specs.Point.{labelPlace, viewOf}
+use Rattle.view.specs.Point.{labelPlace, viewOf}
 use Rattle.shapes.specs.Shapes.{flat}
 use Rattle.ledger.specs.Screen.{ScreenCell, cellOn, layered, Placed, labelled, inArea}
 use Rattle.ledger.specs.Calls.{Opening, Call, draw, points, dot, layer, marker, print, render, refusal, callDots}

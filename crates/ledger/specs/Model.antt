@@ -14,14 +14,14 @@ use Rattle.grids.specs.Cells.{cellAt}
 use Rattle.grids.specs.Painting.{paintDots}
 use Rattle.grids.specs.Layer.{saveOf, resetOf, blankOf}
 use Rattle.grids.specs.declared.layer.LayerCell.{LayerCell}
-use Rattle.shapes.specs.Limits.{maxDraws, maxPainted, maxLabels, cellWords, labelWords}
-use Rattle.shapes.specs.Point.{labelPlace, viewOf}
+use Rattle.view.specs.Limits.{maxDraws, maxPainted, maxLabels, cellWords, labelWords}
+use Rattle.view.specs.Point.{labelPlace, viewOf}
 use Rattle.ledger.specs.Screen.{ScreenCell, cellOn, putOn, orElse, layered, Placed}
 use Rattle.ledger.specs.Labels.{putLabel, heldLabels}
 use Rattle.ledger.specs.Calls.{Opening, Call, draw, points, dot, layer, marker, print, render, first, badSize, badBounds, badColour, refusal, openRefusal, callDots}
 use Rattle.ledger.specs.Ledger.{choiceWord, inkOf, unless, replyUnless, Reply, painted, done, shown}
-use Rattle.shapes.specs.declared.point.Found.{Found}
-use Rattle.shapes.specs.declared.point.Found.the-variants.{At, Nowhere}
+use Rattle.view.specs.declared.point.Found.{Found}
+use Rattle.view.specs.declared.point.Found.the-variants.{At, Nowhere}
 use Rattle.ledger.specs.declared.labels.Choice.{Choice}
 use Rattle.ledger.specs.declared.screen.Area.{Area}
 use Rattle.ledger.specs.declared.state.Canvas.{Canvas}

@@ -2,11 +2,11 @@
 use Prim.Native.Nat.{ℕ, zero, suc}
 use mathlib.Core.List.{[], _∷_}
 use lib.Ieee.{Float}
-use Rattle.shapes.specs.Point.{pointOf, viewOf}
+use Rattle.view.specs.Point.{pointOf, viewOf}
 use Rattle.ledger.specs.Calls.{first, badPoint}
 use Rattle.ledger.specs.Model.{badCanvas}
-use Rattle.shapes.specs.declared.point.Found.{Found}
-use Rattle.shapes.specs.declared.point.Found.the-variants.{At, Nowhere}
+use Rattle.view.specs.declared.point.Found.{Found}
+use Rattle.view.specs.declared.point.Found.the-variants.{At, Nowhere}
 use Rattle.ledger.specs.declared.state.Canvas.{Canvas}
 use Rattle.ledger.specs.declared.state.Pointed.{Pointed}
 use Rattle.ledger.specs.declared.state.Pointed.the-variants.{Refused, Dot, None}

@@ -6,8 +6,8 @@ use lib.Dec.{eqb, ltb, leb}
 use lib.ListN.{length, getD, set}
 use Rattle.grids.specs.Lists.{lastWord}
 use Rattle.grids.specs.declared.layer.LayerCell.{LayerCell}
-use Rattle.shapes.specs.declared.point.Found.{Found}
-use Rattle.shapes.specs.declared.point.Found.the-variants.{At, Nowhere}
+use Rattle.view.specs.declared.point.Found.{Found}
+use Rattle.view.specs.declared.point.Found.the-variants.{At, Nowhere}
 use Rattle.ledger.specs.declared.screen.Area.{Area}
 -- 'A cell is a symbol (Unicode scalar value) and two colours.'
 pub use Rattle.ledger.specs.declared.screen.ScreenCell.{ScreenCell}

@@ -8,7 +8,7 @@ use walk::clip::Bounds;
 use walk::clip::Segment;
 ghost use mathlib.Core.Path.{_≡_};
 ghost use lib.Dec.{leb};
-ghost use Rattle.shapes.specs.Limits.{maxDraws};
+ghost use Rattle.view.specs.Limits.{maxDraws};
 ghost use Rattle.ledger.specs.Calls.{badSize, badBounds, badColour, badSegment, badShape, badPoint, outsideGrid};
 ghost use Rattle.ledger.specs.Model.{badCanvas, shortStores, stateRefusal};
 

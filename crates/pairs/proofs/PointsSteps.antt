@@ -11,7 +11,7 @@ use Rattle.ledger.specs.declared.state.Called.{Called}
 use Rattle.ledger.specs.declared.state.Answer.the-variants.{Refused as is-refused, Painted as is-painted}
 use Rattle.shapes.specs.Shapes.{pairDots}
 use Rattle.shapes.specs.Drawing.{paintedBy}
-use Rattle.shapes.specs.Limits.{maxColumns, maxRows, maxDraws, reset}
+use Rattle.view.specs.Limits.{maxColumns, maxRows, maxDraws, reset}
 use Rattle.ledger.specs.Calls.{points, badPairs, callDots}
 use Rattle.ledger.specs.Model.{refusalOn, drawnCanvas, stateAfter}
 use Rattle.ledger.specs.Contracts.{given as started, refusalBy, painterOf, calledOn}

@@ -6,6 +6,7 @@ pub mod Pairs
 pub mod LentPrefix
 pub mod ByKind
 pub mod Steps
+pub mod CompleteRecords
 pub mod Openings
 pub mod Whole
 pub mod Kept

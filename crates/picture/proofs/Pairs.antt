@@ -12,11 +12,11 @@ use Rattle.floats.proofs.Cases.{or-true-left, lt-or-le}
 use Rattle.walk.specs.Tabulate.{tabulate}
 use Rattle.walk.proofs.Tabulated.{length-tabulate, tabulate-same}
 use Rattle.shapes.specs.declared.painters.Pair.{Pair}
-use Rattle.shapes.specs.Limits.{reset}
-use Rattle.shapes.specs.Point.{pointOf}
+use Rattle.view.specs.Limits.{reset}
+use Rattle.view.specs.Point.{pointOf}
 use Rattle.shapes.specs.Shapes.{pointDots, pairDots}
 use Rattle.shapes.specs.declared.painters.Painter.{Painter}
-use Rattle.shapes.specs.declared.point.View.{View}
+use Rattle.view.specs.declared.point.View.{View}
 use Rattle.shapes.proofs.PaintLists.{Painted, painted-then, flat-append}
 use Rattle.shapes.proofs.DotCounts.{pairs-count}
 use Rattle.ledger.specs.Calls.{badPoint, badPairs, points}

@@ -1,5 +1,6 @@
 -- The opening and the records of a picture file, and the calls they stand for: document 01, 'Picture file (ours) and its program'.
-use Prim.Native.Nat.{ℕ, zero, suc, _+_, _*_, _^_}
+use Prim.Native.Nat.{ℕ, zero, suc, _+_, _*_, _≤_, _^_}
+use mathlib.Core.Path.{_≡_}
 use mathlib.Core.Bool.{Bool, cond, _||_}
 use mathlib.Core.List.{List, [], _∷_}
 use lib.Dec.{eqb, ltb, leb}
@@ -8,7 +9,7 @@ use lib.ListN.{length, getD, take, drop}
 use Rattle.floats.specs.Arithmetic.{bits}
 use Rattle.walk.specs.Tabulate.{tabulate}
 use Rattle.walk.specs.declared.clip.Segment.{Segment}
-use Rattle.shapes.specs.Limits.{reset}
+use Rattle.view.specs.Limits.{reset}
 use Rattle.shapes.specs.declared.painters.Pair.{Pair}
 use Rattle.shapes.specs.declared.painters.Shape.the-variants.{Line, FilledLine, Rectangle, Circle}
 use Rattle.ledger.specs.Calls.{Opening, Call, draw, points, dot, layer, marker, print, first}
@@ -215,3 +216,19 @@ recordForm file at =
 abbrev pub formBy : ℕ → ℕ → Form
 formBy zero end = record { number = 0; end = end }
 formBy (suc number) end = record { number = suc number; end = 0 }
+
+-- ---- the kinds of which the code takes a record with all its fields as a whole: line, filled line and circle
+
+abbrev pub CompleteKind : ℕ → Type 0
+CompleteKind kind = (1 ≤ kind) × ((kind ≤ 4) × (kind ≡ 3 → ⊥))
+
+-- the map with every bit, and the bytes of the fields
+abbrev pub completeMap : ℕ → ℕ
+completeMap kind = cond (eqb kind 1) 31 (cond (eqb kind 2) 63 15)
+
+abbrev pub completeSize : ℕ → ℕ
+completeSize kind = cond (eqb kind 1) 36 (cond (eqb kind 2) 44 28)
+
+-- such a record stands at a place, uncut
+abbrev pub CompleteAt : List ℕ → ℕ → ℕ → Type 0
+CompleteAt file at kind = CompleteKind kind × ((length file ≤ maxFile) × ((at + 2 + completeSize kind ≤ length file) × ((kindAt file at ≡ kind) × (mapAt file at ≡ completeMap kind))))

@@ -1,9 +1,11 @@
 // The fields of a picture file, little-endian, read from a part of the file. A field whose bit does
 // not stand in the map takes no byte and has its default; one that the part cuts short counts 0.
 ghost use mathlib.Core.Path.{_≡_};
+ghost use mathlib.Core.Bool.{not};
 ghost use Prim.Native.Nat.{_+_, _≤_, _<_, _^_};
 ghost use lib.ListN.{length};
 ghost use Rattle.floats.specs.Arithmetic.{bits};
+ghost use Rattle.floats.specs.Domain.{inDomain};
 ghost use Rattle.picture.specs.Fields.{little, numberAt, stands, widthIn, numberIn, floatIn};
 
 // A byte's field, and the place after it.
@@ -48,7 +50,7 @@ fn little32(part: &[u8], at: usize) -> u64
     low + 65536 * high
 }
 
-fn little64(part: &[u8], at: usize) -> u64
+pub(crate) fn little64(part: &[u8], at: usize) -> u64
     requires { ⌜ at + 8 ≤ length (now part) ⌝ }
     ensures { λ r. ⌜ r ≡ little (now (part .entry)) at 8 ⌝ }
 {
@@ -111,6 +113,14 @@ pub fn from_bits(n: u64) -> f64
         return 0.0 / 0.0;
     }
     f64::from_bits(n)
+}
+
+// Whether the float with these bits is outside the domain. Without the sign bit a float's bits grow with
+// it, those of 2^40 are the last in the domain, and a NaN's are above all.
+pub(crate) fn is_far(n: u64) -> bool
+    ensures { λ r. ⌜ r ≡ not (inDomain (bits n)) ⌝ }
+{
+    n % 9223372036854775808 > 4787326403894837248
 }
 
 // The float at a place, of a part that has it whole.

@@ -1,5 +1,8 @@
 // A record's form, and the call that it stands for: the fields are read from the part of the file
 // that begins with the record's first field.
+use crate::complete::complete_call;
+use crate::complete::complete_kind;
+use crate::complete::complete_size;
 use crate::fields::byte_field;
 use crate::fields::float_at;
 use crate::fields::has;
@@ -39,7 +42,7 @@ ghost use Rattle.ledger.specs.Model.{stateAfter};
 ghost use Rattle.ledger.specs.Contracts.{given, calledOn};
 ghost use Rattle.picture.specs.Fields.{numberAt, stands, widthIn, placeOf, sizeBy, floatField};
 ghost use Rattle.picture.specs.Run.{stepBy, recordState, recordTaken};
-ghost use Rattle.picture.specs.Records.{maxFile, lineWidths, filledLineWidths, circleWidths, pointsWidths, markerWidths, labelWidths, dotWidths, textPlace, widthsOf, segmentFields, colourField, lineCall, filledLineCall, rectangleCall, circleCall, pairAt, pairsAt, pairCount, pointsCall, markerCall, labelColour, labelText, labelCall, dotCall, callOf, kindAt, mapAt, partAt, recordEnd, recordForm, formBy};
+ghost use Rattle.picture.specs.Records.{maxFile, lineWidths, filledLineWidths, circleWidths, pointsWidths, markerWidths, labelWidths, dotWidths, textPlace, widthsOf, segmentFields, colourField, lineCall, filledLineCall, rectangleCall, circleCall, pairAt, pairsAt, pairCount, pointsCall, markerCall, labelColour, labelText, labelCall, dotCall, callOf, kindAt, mapAt, partAt, recordEnd, recordForm, formBy, CompleteAt};
 
 // The next place in the file, or the refusal with document 01's number.
 pub enum Step {
@@ -264,30 +267,9 @@ struct Drawing {
     colour: u32,
 }
 
-// A line with all its fields, which then have fixed places: most lines are so.
-fn whole_line(part: &[u8]) -> Drawing
-    requires { ⌜ 36 ≤ length (now part) ⌝ }
-    ensures { λ r. ⌜ draw (r .shape) (r .colour) ≡ lineCall 31 (now (part .entry)) ⌝ }
-{
-    let x1 = float_at(part, 0);
-    let y1 = float_at(part, 8);
-    let x2 = float_at(part, 16);
-    let y2 = float_at(part, 24);
-    let colour = number32(part, 32);
-    Drawing {
-        shape: Shape::Line(Segment { x1, y1, x2, y2 }),
-        colour,
-    }
-}
-
 fn line_of(map: u8, part: &[u8]) -> Drawing
     ensures { λ r. ⌜ draw (r .shape) (r .colour) ≡ lineCall map (now (part .entry)) ⌝ }
 {
-    if map == 31 {
-        if part.len() >= 36 {
-            return whole_line(part);
-        }
-    }
     let x1 = real_field(part, 0, map, 1);
     let y1 = real_field(part, x1.end, map, 2);
     let x2 = real_field(part, y1.end, map, 4);
@@ -614,6 +596,32 @@ pub(crate) fn step_of(answer: Answer, next: usize) -> Step
     }
 }
 
+// A record that has all its fields.
+fn take_complete(
+    kind: u8,
+    file: &[u8],
+    at: usize,
+    canvas: Canvas,
+    cells: &mut [u32],
+    labels: &[u32],
+) -> Taken
+    requires { ⌜ CompleteAt (now file) at kind ⌝ }
+    ensures { λ r. ⌜ (r ≡ recordTaken (given canvas (now (cells .entry)) (now (labels .entry))) (now (file .entry)) at)
+        × ((now (cells .exit) ≡ recordState (given canvas (now (cells .entry)) (now (labels .entry))) (now (file .entry)) at .cells)
+        × (now (labels .entry) ≡ recordState (given canvas (now (cells .entry)) (now (labels .entry))) (now (file .entry)) at .labels)) ⌝ }
+{
+    let first = at + 2;
+    let called = complete_call(kind, &file[first..], canvas, &mut *cells, labels);
+    let answer = called.answer;
+    let size = complete_size(kind);
+    let step = step_of(answer, first + size);
+    let after_it = called.canvas;
+    Taken {
+        canvas: after_it,
+        step,
+    }
+}
+
 // The record whose first byte stands at a place: its call is made, or it is refused.
 pub fn take_record(
     file: &[u8],
@@ -626,6 +634,10 @@ pub fn take_record(
         × ((now (cells .exit) ≡ recordState (given canvas (now (cells .entry)) (now (labels .entry))) (now (file .entry)) at .cells)
         × (now (labels .exit) ≡ recordState (given canvas (now (cells .entry)) (now (labels .entry))) (now (file .entry)) at .labels)) ⌝ }
 {
+    let complete = complete_kind(file, at);
+    if complete != 0 {
+        return take_complete(complete, file, at, canvas, &mut *cells, &*labels);
+    }
     let form = record_form(file, at);
     let number = form.number;
     if number != 0 {

@@ -5,7 +5,7 @@ use mathlib.Core.List.{List}
 use native.Mathlib.Omega.{arith}
 use native.Mathlib.Numerals.{add-one}
 use lib.ListN.{length, set}
-use Rattle.shapes.specs.Limits.{reset}
+use Rattle.view.specs.Limits.{reset}
 use Rattle.report.specs.Screen.{blanked, blankScreen}
 
 pub blanked-next : (words before : List ℕ) (k : ℕ) → before ≡ blanked words k

@@ -4,7 +4,7 @@ use mathlib.Core.Bool.{cond, _||_}
 use mathlib.Core.List.{List}
 use lib.Dec.{ltb}
 use lib.ListN.{length, set}
-use Rattle.shapes.specs.Limits.{reset}
+use Rattle.view.specs.Limits.{reset}
 use Rattle.picture.specs.Fields.{numberAt}
 
 -- 'blank (0020, Reset, Reset)': the first n cells

@@ -7,7 +7,7 @@ use Rattle.floats.specs.Methods.{absOf}
 use Rattle.walk.specs.Line.{startsSecond, fromStart, offsetAfter, dotAfter, lineDots}
 use Rattle.grids.specs.Markers.{dotSize}
 use Rattle.grids.specs.Symbols.{brailleSymbol, quadrantSymbol, sextantSymbol, symbolOf}
-use Rattle.shapes.specs.Point.{outsideBounds, flatBounds, scaledOf, pointOf}
+use Rattle.view.specs.Point.{outsideBounds, flatBounds, scaledOf, pointOf}
 use Rattle.samples.specs.Starred.{AllHold, starred}
 
 pub starred-hold : AllHold starred

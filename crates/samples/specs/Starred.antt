@@ -9,9 +9,9 @@ use Rattle.walk.specs.declared.bresenham.Dot.{Dot}
 use Rattle.walk.specs.Line.{lineDots}
 use Rattle.walk.specs.declared.clip.Bounds.{Bounds}
 use Rattle.grids.specs.Symbols.{symbolOf}
-use Rattle.shapes.specs.Point.{pointOf, viewOf}
-use Rattle.shapes.specs.declared.point.Found.{Found}
-use Rattle.shapes.specs.declared.point.Found.the-variants.{At, Nowhere}
+use Rattle.view.specs.Point.{pointOf, viewOf}
+use Rattle.view.specs.declared.point.Found.{Found}
+use Rattle.view.specs.declared.point.Found.the-variants.{At, Nowhere}
 
 abbrev pub ends : ℕ → ℕ → ℕ → ℕ → Ends
 ends x1 y1 x2 y2 = record { x1 = x1; y1 = y1; x2 = x2; y2 = y2 }

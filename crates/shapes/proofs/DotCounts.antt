@@ -24,14 +24,14 @@ use Rattle.walk.proofs.Tabulated.{length-tabulate}
 use Rattle.walk.proofs.LineDots.{length-line, Within, dot-within}
 use Rattle.grids.specs.Markers.{dotSize, dotColumns, dotRows, by}
 use Rattle.grids.specs.declared.markers.Size.{Size}
-use Rattle.shapes.specs.Limits.{maxColumns, maxRows, maxPainted}
-use Rattle.shapes.specs.Point.{outsideBounds, flatBounds, scaledOf, pointOf, viewOf}
+use Rattle.view.specs.Limits.{maxColumns, maxRows, maxPainted}
+use Rattle.view.specs.Point.{outsideBounds, flatBounds, scaledOf, pointOf, viewOf}
 use Rattle.shapes.specs.Shapes.{flat, pointDots, dotsBetween, clippedLine, linePoints, columnTo, filledDots, filledBetween, clippedFill, filledPoints, segment, rectanglePoints, anglePoint, angles, circlePoints, pairDots}
 use Rattle.shapes.specs.Drawing.{shapeDots}
 use Rattle.shapes.specs.declared.painters.Pair.{Pair}
-use Rattle.shapes.specs.declared.point.View.{View}
-use Rattle.shapes.specs.declared.point.Found.{Found}
-use Rattle.shapes.specs.declared.point.Found.the-variants.{At, Nowhere}
+use Rattle.view.specs.declared.point.View.{View}
+use Rattle.view.specs.declared.point.Found.{Found}
+use Rattle.view.specs.declared.point.Found.the-variants.{At, Nowhere}
 use Rattle.shapes.specs.declared.painters.Shape.{Shape}
 use Rattle.shapes.specs.declared.painters.Shape.the-variants as shapes
 

@@ -1,6 +1,7 @@
 -- Each way out of `paint_line` and `paint_filled_line`, over plain values, and that a line has at most 65536 dots.
 use Prim.Native.Nat.{ℕ, _+_, _^_, _≤_, _<_, max}
 use mathlib.Core.Path.{_≡_, sym, _∙_}
+use mathlib.Core.Bool.{false}
 use mathlib.Core.List.{List, [], _++_}
 use native.Mathlib.Omega.{arith}
 use lib.Ieee.{Float}
@@ -13,15 +14,16 @@ use Rattle.walk.specs.declared.clip.Clipped.the-variants.{Line, NoLine}
 use Rattle.walk.specs.declared.bresenham.Ends.{Ends}
 use Rattle.walk.specs.Clip.{clipOf}
 use Rattle.walk.specs.Line.{apart, lineDots}
+use Rattle.walk.proofs.Clipping.{any-side, accepted-ends}
 use Rattle.walk.proofs.LineDots.{length-line}
-use Rattle.shapes.specs.Point.{pointOf, frameOf, spotOf}
+use Rattle.view.specs.Point.{outsideBounds, pointOf, frameOf, spotOf}
 use Rattle.shapes.specs.Shapes.{flat, columnTo, dotsBetween, clippedLine, linePoints, filledPoints, segment, rectanglePoints}
-use Rattle.shapes.specs.declared.point.View.{View}
-use Rattle.shapes.specs.declared.point.Frame.{Frame}
-use Rattle.shapes.specs.declared.point.Found.{Found}
-use Rattle.shapes.specs.declared.point.Found.the-variants.{At, Nowhere}
+use Rattle.view.specs.declared.point.View.{View}
+use Rattle.view.specs.declared.point.Frame.{Frame}
+use Rattle.view.specs.declared.point.Found.{Found}
+use Rattle.view.specs.declared.point.Found.the-variants.{At, Nowhere}
 use Rattle.shapes.specs.declared.painters.Painter.{Painter}
-use Rattle.shapes.proofs.DotPlaces.{Fits, point-fits, spot-point}
+use Rattle.view.proofs.DotPlaces.{Fits, point-fits, spot-point}
 use Rattle.shapes.proofs.PaintLists.{Painted, painted-then}
 
 abbrev pub ends : ℕ → ℕ → ℕ → ℕ → Ends
@@ -30,6 +32,12 @@ ends x1 y1 x2 y2 = record { x1 = x1; y1 = y1; x2 = x2; y2 = y2 }
 -- ---- what `spot` found in the view's frame is the point's dot
 pub found-is : (v : View) (frame : Frame) (x y : Float) {r found : Found} → frame ≡ frameOf v → r ≡ spotOf frame x y → r ≡ found → pointOf v x y ≡ found
 found-is v frame x y e s g = rw (← spot-point v x y, ← e) (sym s ∙ g)
+
+-- and what `spot_inside` found, of a point that is not outside
+found-inside : (v : View) (frame : Frame) (x y : Float) {r found : Found} → outsideBounds (v .bounds) x y ≡ false → frame ≡ frameOf v
+    → (outsideBounds (frame .view .bounds) x y ≡ false → r ≡ spotOf frame x y) → r ≡ found → pointOf v x y ≡ found
+unfolding frameOf
+found-inside v frame x y inside e s g = found-is v frame x y e (s (rw e inside)) g
 
 -- ---- nothing is left of the line
 module _ (v : View) (s : Segment) {n : ℕ} (clipped : clipOf (v .bounds) s ≡ NoLine n) where
@@ -41,8 +49,17 @@ module _ (v : View) (s : Segment) {n : ℕ} (clipped : clipOf (v .bounds) s ≡ 
   unfolding filledPoints
   filled-clipped fill = rw clipped
 
--- ---- what is left of it
+-- ---- what is left of it: its ends are not outside
 module _ (v : View) (s : Segment) {t : Segment} {n : ℕ} (clipped : clipOf (v .bounds) s ≡ Line t n) where
+  module _ {frame : Frame} (e : frame ≡ frameOf v) {r found : Found} where
+    pub found-first : (outsideBounds (frame .view .bounds) (t .x1) (t .y1) ≡ false → r ≡ spotOf frame (t .x1) (t .y1)) → r ≡ found → pointOf v (t .x1) (t .y1) ≡ found
+    unfolding outsideBounds
+    found-first = found-inside v frame (t .x1) (t .y1) (any-side (v .bounds) (t .x1) (t .y1) ∙ accepted-ends (v .bounds) s clipped .0) e
+
+    pub found-second : (outsideBounds (frame .view .bounds) (t .x2) (t .y2) ≡ false → r ≡ spotOf frame (t .x2) (t .y2)) → r ≡ found → pointOf v (t .x2) (t .y2) ≡ found
+    unfolding outsideBounds
+    found-second = found-inside v frame (t .x2) (t .y2) (any-side (v .bounds) (t .x2) (t .y2) ∙ accepted-ends (v .bounds) s clipped .1) e
+
   pub line-no-first : pointOf v (t .x1) (t .y1) ≡ Nowhere → linePoints v s ≡ []
   unfolding linePoints
   line-no-first first = rw (clipped, first)

@@ -4,7 +4,7 @@ use mathlib.Core.List.{List}
 use Rattle.walk.specs.declared.bresenham.Dot.{Dot}
 use Rattle.grids.specs.Painting.{paintDots}
 use Rattle.shapes.specs.Shapes.{linePoints, filledPoints, rectanglePoints, circlePoints}
-use Rattle.shapes.specs.declared.point.View.{View}
+use Rattle.view.specs.declared.point.View.{View}
 use Rattle.shapes.specs.declared.painters.Shape.{Shape}
 use Rattle.shapes.specs.declared.painters.Shape.the-variants.{Line, FilledLine, Rectangle, Circle}
 use Rattle.shapes.specs.declared.painters.Painter.{Painter}

@@ -1,5 +1,3 @@
--- What a reader must believe of points and shapes.
-pub mod Limits
-pub mod Point
+-- What a reader must believe of shapes.
 pub mod Shapes
 pub mod Drawing

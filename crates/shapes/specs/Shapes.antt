@@ -13,11 +13,11 @@ use Rattle.walk.specs.declared.bresenham.Dot.{Dot}
 use Rattle.walk.specs.Clip.{clipOf}
 use Rattle.walk.specs.Tabulate.{tabulate}
 use Rattle.walk.specs.Line.{apart, lineDots}
-use Rattle.shapes.specs.Point.{whole, pointOf}
+use Rattle.view.specs.Point.{whole, pointOf}
 use Rattle.shapes.specs.declared.painters.Pair.{Pair}
-use Rattle.shapes.specs.declared.point.View.{View}
-use Rattle.shapes.specs.declared.point.Found.{Found}
-use Rattle.shapes.specs.declared.point.Found.the-variants.{At, Nowhere}
+use Rattle.view.specs.declared.point.View.{View}
+use Rattle.view.specs.declared.point.Found.{Found}
+use Rattle.view.specs.declared.point.Found.the-variants.{At, Nowhere}
 
 abbrev pub dotAt : ℕ → ℕ → Dot
 dotAt column row = record { column = column; row = row }

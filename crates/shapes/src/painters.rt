@@ -1,10 +1,5 @@
 // The shapes, painted dot by dot in the order of the Rust. Each function paints the dots of a
 // definition in specs/ and gives their number.
-use crate::point::Found;
-use crate::point::View;
-use crate::point::frame_of;
-use crate::point::point;
-use crate::point::spot;
 use angles::angle_table;
 use columns::paint_rows;
 use floats::methods::clamp;
@@ -14,22 +9,32 @@ use grids::painting::flat_index;
 use grids::painting::paint;
 use grids::painting::paint_braille;
 use grids::painting::paint_plain;
+use view::point::Found;
+use view::point::View;
+use view::point::frame_of;
+use view::point::point;
+use view::point::spot;
+use view::point::spot_inside;
+use view::point::spot_known;
 use walk::bresenham::Ends;
+use walk::clip::Bounds;
 use walk::clip::Clipped;
 use walk::clip::Segment;
 use walk::clip::clip_line;
 use walk::course::Course;
 ghost use mathlib.Core.Path.{_≡_};
 ghost use mathlib.Core.List.{[], _∷_};
-ghost use mathlib.Core.Bool.{true};
+ghost use mathlib.Core.Bool.{true, false};
 ghost use Prim.Native.Nat.{ℕ, _+_, _*_, _/_, _<_, max};
 ghost use lib.ListN.{length, getD, set};
 ghost use lib.Bits.{bitOr};
+ghost use Rattle.floats.specs.Polyfills.{mulAddOf};
+ghost use Rattle.angles.specs.Angles.{cosAt, sinAt};
 ghost use Rattle.walk.specs.Line.{lineDots};
 ghost use Rattle.walk.specs.Course.{courseOf, courseDot, courseAfter, courseDots};
 ghost use Rattle.grids.specs.Markers.{by, dotSize};
 ghost use Rattle.grids.specs.Painting.{cellsHeld};
-ghost use Rattle.shapes.specs.Point.{pointOf};
+ghost use Rattle.view.specs.Point.{outsideBounds, pointOf};
 ghost use Rattle.shapes.specs.Shapes.{flat, dotAt, pointDots, linePoints, columnTo, filledPoints, rectanglePoints, circlePoints};
 ghost use Rattle.shapes.specs.Drawing.{shapeDots, paintedBy};
 
@@ -220,15 +225,15 @@ pub fn paint_line(cells: &mut [u32], p: Painter, s: Segment) -> u64
 {
     let v = p.view;
     let clipped = clip_line(v.bounds, s);
-    let Clipped::Line(c, _) = clipped else {
+    let Clipped::Line(kept, _) = clipped else {
         return 0;
     };
     let f = frame_of(v);
-    let first = spot(f, c.x1, c.y1);
+    let first = spot_inside(f, kept.x1, kept.y1);
     let Found::At(x1, y1) = first else {
         return 0;
     };
-    let second = spot(f, c.x2, c.y2);
+    let second = spot_inside(f, kept.x2, kept.y2);
     let Found::At(x2, y2) = second else {
         return 0;
     };
@@ -283,11 +288,11 @@ pub fn paint_filled_line(cells: &mut [u32], p: Painter, s: Segment, fill_to_y: f
         return 0;
     };
     let f = frame_of(v);
-    let first = spot(f, c.x1, c.y1);
+    let first = spot_inside(f, c.x1, c.y1);
     let Found::At(x1, y1) = first else {
         return 0;
     };
-    let second = spot(f, c.x2, c.y2);
+    let second = spot_inside(f, c.x2, c.y2);
     let Found::At(x2, y2) = second else {
         return 0;
     };
@@ -355,23 +360,89 @@ pub fn paint_rectangle(
     a + b + c + d
 }
 
-// A circle: the points at 360 angles, whose cosines and sines stand in a table. The table and the
-// frame are made once.
-pub fn paint_circle(cells: &mut [u32], p: Painter, x: f64, y: f64, radius: f64) -> u64
+// Whether no point of a circle is outside the bounds: its outermost ones are not, and no cosine or sine is
+// above 1 in size.
+fn is_circle_inside(b: Bounds, x: f64, y: f64, radius: f64) -> bool
+    ensures { λ r. ⌜ (r ≡ true → (angle : ℕ) → angle < 360 → outsideBounds b (mulAddOf radius (cosAt angle) x) (mulAddOf radius (sinAt angle) y) ≡ false) ⌝ }
+{
+    let left = mul_add(radius, -1.0, x);
+    let right = mul_add(radius, 1.0, x);
+    let bottom = mul_add(radius, -1.0, y);
+    let top = mul_add(radius, 1.0, y);
+    (radius > 0.0)
+        & ((left >= b.left) & (right <= b.right))
+        & ((bottom >= b.bottom) & (top <= b.top))
+}
+
+// A dot, or none, on a Braille grid of which the store has `end` cells.
+fn found_braille(cells: &mut [u32], p: Painter, end: usize, found: Found) -> u64
+    requires { ⌜ (p .marker ≡ 1) × (end ≡ cellsHeld (now cells) (p .columns) (p .rows)) ⌝ }
+    ensures { λ r. ⌜ (r ≡ length (pointDots found)) × (now (cells .exit) ≡ paintedBy p (now (cells .entry)) (pointDots found)) ⌝ }
+{
+    let Found::At(column, row) = found else {
+        return 0;
+    };
+    paint_braille(
+        &mut *cells,
+        p.columns,
+        end,
+        column as u32,
+        row as u32,
+        p.word,
+    );
+    1
+}
+
+// The points of a circle on a Braille grid. The marker is tested once, and where it is known that no
+// point is outside, the bounds are not tested.
+fn circle_braille(cells: &mut [u32], p: Painter, x: f64, y: f64, radius: f64, inside: bool) -> u64
+    requires { ⌜ (p .marker ≡ 1) × (inside ≡ true → (angle : ℕ) → angle < 360 → outsideBounds (p .view .bounds) (mulAddOf radius (cosAt angle) x) (mulAddOf radius (sinAt angle) y) ≡ false) ⌝ }
     ensures { λ r. ⌜ (r ≡ length (circlePoints (p .view) x y radius)) × (now (cells .exit) ≡ paintedBy p (now (cells .entry)) (circlePoints (p .view) x y radius)) ⌝ }
 {
     let table = angle_table();
     let frame = frame_of(p.view);
+    let end = cells_held(&*cells, p.columns, p.rows);
     let mut painted: u64 = 0;
     let mut angle: usize = 0;
     while angle < 360 {
         let circle_x = mul_add(radius, table[angle * 2], x);
         let circle_y = mul_add(radius, table[angle * 2 + 1], y);
-        let found = spot(frame, circle_x, circle_y);
-        painted += paint_found(&mut *cells, p, found);
+        let found = spot_known(frame, inside, circle_x, circle_y);
+        painted += found_braille(&mut *cells, p, end, found);
         angle += 1;
     }
     painted
+}
+
+// The same on any grid.
+fn circle_any(cells: &mut [u32], p: Painter, x: f64, y: f64, radius: f64) -> u64
+    ensures { λ r. ⌜ (r ≡ length (circlePoints (p .view) x y radius)) × (now (cells .exit) ≡ paintedBy p (now (cells .entry)) (circlePoints (p .view) x y radius)) ⌝ }
+{
+    let table = angle_table();
+    let frame = frame_of(p.view);
+    let mut painted: u64 = 0;
+    let mut degree: usize = 0;
+    while degree < 360 {
+        let point_x = mul_add(radius, table[degree * 2], x);
+        let point_y = mul_add(radius, table[degree * 2 + 1], y);
+        let found = spot(frame, point_x, point_y);
+        painted += paint_found(&mut *cells, p, found);
+        degree += 1;
+    }
+    painted
+}
+
+// A circle: the points at 360 angles, whose cosines and sines stand in a table. The table and the
+// frame are made once.
+pub fn paint_circle(cells: &mut [u32], p: Painter, x: f64, y: f64, radius: f64) -> u64
+    ensures { λ r. ⌜ (r ≡ length (circlePoints (p .view) x y radius)) × (now (cells .exit) ≡ paintedBy p (now (cells .entry)) (circlePoints (p .view) x y radius)) ⌝ }
+{
+    if p.marker == 1 {
+        let v = p.view;
+        let inside = is_circle_inside(v.bounds, x, y, radius);
+        return circle_braille(&mut *cells, p, x, y, radius, inside);
+    }
+    circle_any(&mut *cells, p, x, y, radius)
 }
 
 // A shape.

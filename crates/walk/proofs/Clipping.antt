@@ -1,4 +1,4 @@
--- One law for each way out of clip_outside's loop, and what document 01 promises of the number of cuts.
+-- One law for each way out of clip_outside's loop, what document 01 promises of the number of cuts, and that an accepted line's ends have no side.
 use mathlib.Core.Path.{_≡_, refl, sym, ap, _∙_}
 use mathlib.Core.Bool.{Bool, true, false, not, _&&_, _||_, cond}
 use Prim.Native.Nat.{ℕ, zero, suc, _+_, _≤_}
@@ -108,3 +108,28 @@ uncut-none-common b s h = go (not (outside first || outside second)) refl (commo
         let e : clipFrom 7 1 b next ≡ clipOf b s =
         cut-again 8 0 b s first second refl refl (outside first) (outside second) refl refl p (common first second) refl q 7 next refl refl in
         absurd (omega (arith, cuts-from 7 1 b next .0, ap cutsOf e, none-cut))
+
+-- ---- an accepted line's ends have no side
+abbrev EndsIn : Bounds → Clipped → Type 0
+EndsIn b (Line t n) = (outside (firstSides b t) ≡ false) × (outside (secondSides b t) ≡ false)
+EndsIn b (NoLine n) = Unit {0}
+
+judged-ends : (b : Bounds) (s : Segment) (n : ℕ) (else : Clipped) → EndsIn b else → EndsIn b (judged b s n else)
+judged-ends b s n else there = go (outside (firstSides b s)) refl (outside (secondSides b s)) refl (common (firstSides b s) (secondSides b s))
+  where
+    go : (p : Bool) → outside (firstSides b s) ≡ p → (q : Bool) → outside (secondSides b s) ≡ q → (y : Bool) → EndsIn b (cond (not (p || q)) (Line s n) (cond y (NoLine n) else))
+    go false e false f y = (e, f)
+    go false e true f true = tt
+    go false e true f false = there
+    go true e q f true = tt
+    go true e q f false = there
+
+ends-from : (left n : ℕ) (b : Bounds) (s : Segment) → EndsIn b (clipFrom left n b s)
+unfolding clipFrom
+ends-from zero n b s = judged-ends b s n (NoLine n) tt
+ends-from (suc left) n b s =
+    let next = cutOf b s (firstSides b s) (secondSides b s) in
+    judged-ends b s n (clipFrom left (n + 1) b next) (ends-from left (n + 1) b next)
+
+pub accepted-ends : (b : Bounds) (s : Segment) {t : Segment} {n : ℕ} → clipOf b s ≡ Line t n → (outside (firstSides b t) ≡ false) × (outside (secondSides b t) ≡ false)
+accepted-ends b s e = rw e at (ends-from 8 0 b s)

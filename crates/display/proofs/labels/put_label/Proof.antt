@@ -8,7 +8,7 @@ use native.Mathlib.Omega.{arith}
 use lib.ListN.{length, take, length-set}
 use lib.Seq.{sets, length-sets, take-length}
 use borrow.Author.Needs.{needs}
-use Rattle.shapes.specs.Limits.{maxText}
+use Rattle.view.specs.Limits.{maxText}
 use Rattle.ledger.specs.Labels.{putLabel}
 use Rattle.ledger.proofs.Tests.{both-at-most}
 use Rattle.ledger.proofs.Runs.{sets-more, sets-four}

@@ -7,7 +7,7 @@ use native.Mathlib.Omega.{arith}
 use lib.ListN.{length}
 use borrow.Author.Needs.{needs}
 use Rattle.grids.specs.Lists.{foldl}
-use Rattle.shapes.specs.Limits.{maxLabels}
+use Rattle.view.specs.Limits.{maxLabels}
 use Rattle.ledger.specs.Calls.{passesEdge, badScreen}
 use Rattle.ledger.specs.Labels.{heldLabels}
 use Rattle.ledger.specs.Model.{writtenLabel, labelCells}

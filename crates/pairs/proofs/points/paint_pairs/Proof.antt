@@ -52,7 +52,7 @@ use denote.Triple.Walked.{says, Stays, stay-none-slice, stay-slice, stay-none, w
 use denote.Exit.{yes}
 use Rattle.shapes.specs.declared.painters.Painter.{Painter}
 use Rattle.shapes.specs.declared.painters.Pair.{Pair}
-use Rattle.shapes.specs.Point.{pointOf}
+use Rattle.view.specs.Point.{pointOf}
 use Rattle.shapes.specs.Shapes.{pointDots, pairDots}
 use Rattle.pairs.proofs.LentAgain.{LentAgain, lends-again, comes-back}
 use Rattle.shapes.proofs.PaintLists.{Painted, pair-next, point-le, painted-same}

@@ -1,15 +1,8 @@
 -- Each field begins where the one before it ends.
-use mathlib.Core.Path.{_∙_}
 use native.Mathlib.Omega.{arith}
 use borrow.Author.Needs.{needs}
 use Rattle.picture.proofs.records.line_of.Statement.{statement}
 use Rattle.picture.proofs.records.line_of.Tie as tie
-
-whole-line-requires : tie.Need-whole-line-requires
-whole-line-requires c κs = search needs
-
-returns : tie.Need-returns
-returns c = c .whole-line .ensures ∙ rw (c .before .before .if1 .taken)
 
 real-field-requires : tie.Need-real-field-requires
 real-field-requires c κs = search needs
@@ -26,8 +19,8 @@ real-field-requires-4 c κs = search needs
 number-field-requires : tie.Need-number-field-requires
 number-field-requires c κs = search needs
 
-returns-2 : tie.Need-returns-2
-returns-2 c =
+returns : tie.Need-returns
+returns c =
     let e1 = c .before .before .before .before .real-field .ensures (omega arith) (omega (arith)) in
     let e2 = c .before .before .before .real-field2 .ensures (omega arith) (omega (arith, e1 .1)) in
     let e3 = c .before .before .real-field3 .ensures (omega arith) (omega (arith, e1 .1, e2 .1)) in
@@ -39,11 +32,9 @@ pub line-of-spec : {M : Type 1} → statement M
 line-of-spec =
     tie.close
     (tie.spec
-    whole-line-requires
-    returns
     real-field-requires
     real-field-requires-2
     real-field-requires-3
     real-field-requires-4
     number-field-requires
-    returns-2)
+    returns)

@@ -13,23 +13,38 @@ use borrow.Author.Needs.{needs}
 use Rattle.picture.proofs.records.take_record.Statement.{statement}
 use Rattle.picture.proofs.records.take_record.Tie as tie
 
-abbrev start : tie.Else1 → tie.Start
-start c = c .before .before .before .before .before
+abbrev start : tie.Else2 → tie.Start
+start c = c .before .before .before .before .before .before .before
 
 -- a record that is not refused for its form
-good : (c : tie.Else1) → 0 ≡ recordForm (start c .args .file .now) (start c .args .at)
-good c = sym (c .if1 .left) ∙ form-number _ _ _ (c .before .record-form .ensures)
+good : (c : tie.Else2) → 0 ≡ recordForm (start c .args .file .now) (start c .args .at)
+good c = sym (c .if2 .left) ∙ form-number _ _ _ (c .before .record-form .ensures)
 
-abbrev whole : (c : tie.Else1) → Formed (start c .args .file .now) (start c .args .at)
+abbrev whole : (c : tie.Else2) → Formed (start c .args .file .now) (start c .args .at)
 whole c = formed (start c .args .file .now) (start c .args .at) (good c)
+
+complete-kind-requires : tie.Need-complete-kind-requires
+complete-kind-requires c κs = search needs
+
+take-complete-requires : tie.Need-take-complete-requires
+take-complete-requires c κs = let t = c .before .before in t .before .complete-kind .ensures (t .if1 .taken)
+
+same-length : tie.Need-same-length
+same-length c = search needs
+
+same-length-2 : tie.Need-same-length-2
+same-length-2 c = search needs
+
+returns : tie.Need-returns
+returns c = c .before .before .take-complete .ensures
 
 record-form-requires : tie.Need-record-form-requires
 record-form-requires c κs = search needs
 
-returns : tie.Need-returns
-returns c =
-    let a = c .before .before .before .before .before .args in
-    let r = form-refused (given (a .canvas) (a .cells .now) (a .labels .now)) (a .file .now) (a .at) _ (form-number _ _ _ (c .before .record-form .ensures)) (c .if1 .taken) in
+returns-2 : tie.Need-returns-2
+returns-2 c =
+    let a = c .before .before .before .before .before .before .before .args in
+    let r = form-refused (given (a .canvas) (a .cells .now) (a .labels .now)) (a .file .now) (a .at) _ (form-number _ _ _ (c .before .record-form .ensures)) (c .if2 .taken) in
     (rw (← r .1, ← r .0), (rw (← r .1), rw (← r .1)))
 
 add-first : tie.Need-add-first
@@ -66,14 +81,14 @@ record-call-requires c κs =
 step-of-requires : tie.Need-step-of-requires
 step-of-requires c κs = search needs
 
-same-length : tie.Need-same-length
-same-length c = search needs
+same-length-3 : tie.Need-same-length-3
+same-length-3 c = search needs
 
-same-length-2 : tie.Need-same-length-2
-same-length-2 c = search needs
+same-length-4 : tie.Need-same-length-4
+same-length-4 c = search needs
 
-returns-2 : tie.Need-returns-2
-returns-2 c =
+returns-3 : tie.Need-returns-3
+returns-3 c =
     let called = c .before .before .before .before .before .before .record-call in
     let e = c .before .before .before .before .before .before .before .before .before .before .before .before in
     let a = start e .args in
@@ -86,8 +101,13 @@ pub take-record-spec : {M : Type 1} → statement M
 take-record-spec =
     tie.close
     (tie.spec
-    record-form-requires
+    complete-kind-requires
+    take-complete-requires
+    same-length
+    same-length-2
     returns
+    record-form-requires
+    returns-2
     add-first
     shared-slice-read-kind
     add-map
@@ -97,6 +117,6 @@ take-record-spec =
     part-record-call-end
     record-call-requires
     step-of-requires
-    same-length
-    same-length-2
-    returns-2)
+    same-length-3
+    same-length-4
+    returns-3)

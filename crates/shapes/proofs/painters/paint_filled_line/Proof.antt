@@ -5,11 +5,11 @@ use Rattle.floats.specs.Methods.{clampOf}
 use Rattle.walk.specs.declared.clip.Segment.{Segment}
 use Rattle.walk.specs.declared.clip.Clipped.the-variants.{Line}
 use Rattle.walk.specs.Clip.{clipOf}
-use Rattle.shapes.specs.Point.{pointOf}
-use Rattle.shapes.specs.declared.point.Found.{Found}
-use Rattle.shapes.specs.declared.point.Found.the-variants.{At}
+use Rattle.view.specs.Point.{pointOf}
+use Rattle.view.specs.declared.point.Found.{Found}
+use Rattle.view.specs.declared.point.Found.the-variants.{At}
 use Rattle.shapes.proofs.PaintLists.{painted-none, painted-same}
-use Rattle.shapes.proofs.LineCases.{filled-clipped, filled-no-first, filled-no-second, filled-no-row, filled-between, found-is}
+use Rattle.shapes.proofs.LineCases.{filled-clipped, filled-no-first, filled-no-second, filled-no-row, filled-between, found-is, found-first, found-second}
 use Rattle.shapes.proofs.painters.paint_filled_line.Statement.{statement}
 use Rattle.shapes.proofs.painters.paint_filled_line.Tie as tie
 
@@ -30,18 +30,21 @@ clipped-is : (c : tie.After-clipped) → clipOf (start c .args .p .view .bounds)
 clipped-is c = sym (c .before .before .clip-line .ensures) ∙ c .clipped .given .1
 
 first-is : (c : tie.After-first) → let k = at-first c in pointOf (start k .args .p .view) (kept k .x1) (kept k .y1) ≡ At (c .first .given .0 .0) (c .first .given .0 .1 .0)
-first-is c = found-is (start (at-first c) .args .p .view) _ _ _ (c .before .before .before .frame-of .ensures) (c .before .before .spot .ensures) (c .first .given .1)
+first-is c =
+    let k = at-first c in
+    found-first (start k .args .p .view) (start k .args .s) (clipped-is k) (c .before .before .before .frame-of .ensures) (c .before .before .spot-inside .ensures) (c .first .given .1)
 
 second-is : (c : tie.After-second) → let k = at-first (at-second c) in pointOf (start k .args .p .view) (kept k .x2) (kept k .y2) ≡ At (c .second .given .0 .0) (c .second .given .0 .1 .0)
 second-is c =
     let f = at-second c in
-    found-is (start (at-first f) .args .p .view) _ _ _ (f .before .before .before .frame-of .ensures) (c .before .before .spot2 .ensures) (c .second .given .1)
+    let k = at-first f in
+    found-second (start k .args .p .view) (start k .args .s) (clipped-is k) (f .before .before .before .frame-of .ensures) (c .before .before .spot-inside2 .ensures) (c .second .given .1)
 
-third-is : (c : tie.After-spot3) {found : Found} → c .spot3 .result ≡ found
+third-is : (c : tie.After-spot) {found : Found} → c .spot .result ≡ found
     → let k = at-first (at-second (c .before .before .before)) in let a = start k .args in pointOf (a .p .view) (kept k .x1) (clampOf (a .fill-to-y) (a .p .view .bounds .bottom) (a .p .view .bounds .top)) ≡ found
 third-is c e =
     let f = at-second (c .before .before .before) in
-    rw (c .before .clamp .ensures) at (found-is (start (at-first f) .args .p .view) _ _ _ (f .before .before .before .frame-of .ensures) (c .spot3 .ensures) e)
+    rw (c .before .clamp .ensures) at (found-is (start (at-first f) .args .p .view) _ _ _ (f .before .before .before .frame-of .ensures) (c .spot .ensures) e)
 
 clip-line-requires : tie.Need-clip-line-requires
 clip-line-requires c κs = search needs
@@ -61,8 +64,8 @@ returns c =
 frame-of-requires : tie.Need-frame-of-requires
 frame-of-requires c κs = search needs
 
-spot-requires : tie.Need-spot-requires
-spot-requires c κs = search needs
+spot-inside-requires : tie.Need-spot-inside-requires
+spot-inside-requires c κs = search needs
 
 enum-known-first : tie.Need-enum-known-first
 enum-known-first c = search needs
@@ -76,10 +79,10 @@ returns-2 c =
     let k = f .before .before .before in
     let a = start k .args in
     painted-none (a .p) (a .cells .now) _
-    (filled-no-first (a .p .view) (a .s) (clipped-is k) (a .fill-to-y) (found-is (a .p .view) _ _ _ (f .before .frame-of .ensures) (f .spot .ensures) (c .enum-told2 .given .1)))
+    (filled-no-first (a .p .view) (a .s) (clipped-is k) (a .fill-to-y) (found-first (a .p .view) (a .s) (clipped-is k) (f .before .frame-of .ensures) (f .spot-inside .ensures) (c .enum-told2 .given .1)))
 
-spot-requires-2 : tie.Need-spot-requires-2
-spot-requires-2 c κs = search needs
+spot-inside-requires-2 : tie.Need-spot-inside-requires-2
+spot-inside-requires-2 c κs = search needs
 
 enum-known-second : tie.Need-enum-known-second
 enum-known-second c = search needs
@@ -94,13 +97,13 @@ returns-3 c =
     let k = at-first f in
     let a = start k .args in
     painted-none (a .p) (a .cells .now) _
-    (filled-no-second (a .p .view) (a .s) (clipped-is k) (first-is f) (a .fill-to-y) (found-is (a .p .view) _ _ _ (f .before .before .before .frame-of .ensures) (g .spot2 .ensures) (c .enum-told3 .given .1)))
+    (filled-no-second (a .p .view) (a .s) (clipped-is k) (first-is f) (a .fill-to-y) (found-second (a .p .view) (a .s) (clipped-is k) (f .before .before .before .frame-of .ensures) (g .spot-inside2 .ensures) (c .enum-told3 .given .1)))
 
 clamp-requires : tie.Need-clamp-requires
 clamp-requires c κs = search needs
 
-spot-requires-3 : tie.Need-spot-requires-3
-spot-requires-3 c κs = search needs
+spot-requires : tie.Need-spot-requires
+spot-requires c κs = search needs
 
 enum-known-third : tie.Need-enum-known-third
 enum-known-third c = search needs
@@ -142,16 +145,16 @@ paint-filled-line-spec =
     enum-told
     returns
     frame-of-requires
-    spot-requires
+    spot-inside-requires
     enum-known-first
     enum-told-2
     returns-2
-    spot-requires-2
+    spot-inside-requires-2
     enum-known-second
     enum-told-3
     returns-3
     clamp-requires
-    spot-requires-3
+    spot-requires
     enum-known-third
     enum-told-4
     returns-4

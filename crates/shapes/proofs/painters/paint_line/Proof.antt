@@ -4,10 +4,10 @@ use borrow.Author.Needs.{needs}
 use Rattle.walk.specs.declared.clip.Segment.{Segment}
 use Rattle.walk.specs.declared.clip.Clipped.the-variants.{Line}
 use Rattle.walk.specs.Clip.{clipOf}
-use Rattle.shapes.specs.Point.{pointOf}
-use Rattle.shapes.specs.declared.point.Found.the-variants.{At}
+use Rattle.view.specs.Point.{pointOf}
+use Rattle.view.specs.declared.point.Found.the-variants.{At}
 use Rattle.shapes.proofs.PaintLists.{painted-none, painted-same}
-use Rattle.shapes.proofs.LineCases.{line-clipped, line-no-first, line-no-second, line-between, found-is}
+use Rattle.shapes.proofs.LineCases.{line-clipped, line-no-first, line-no-second, line-between, found-first, found-second}
 use Rattle.shapes.proofs.painters.paint_line.Statement.{statement}
 use Rattle.shapes.proofs.painters.paint_line.Tie as tie
 
@@ -24,7 +24,7 @@ clipped-is c = sym (c .before .before .clip-line .ensures) ∙ c .clipped .given
 first-is : (c : tie.After-first) → let k = c .before .before .before .before .before in pointOf (start k .args .p .view) (kept k .x1) (kept k .y1) ≡ At (c .first .given .0 .0) (c .first .given .0 .1 .0)
 first-is c =
     let k = c .before .before .before .before .before in
-    found-is (start k .args .p .view) _ _ _ (c .before .before .before .frame-of .ensures) (c .before .before .spot .ensures) (c .first .given .1)
+    found-first (start k .args .p .view) (start k .args .s) (clipped-is k) (c .before .before .before .frame-of .ensures) (c .before .before .spot-inside .ensures) (c .first .given .1)
 
 clip-line-requires : tie.Need-clip-line-requires
 clip-line-requires c κs = search needs
@@ -44,8 +44,8 @@ returns c =
 frame-of-requires : tie.Need-frame-of-requires
 frame-of-requires c κs = search needs
 
-spot-requires : tie.Need-spot-requires
-spot-requires c κs = search needs
+spot-inside-requires : tie.Need-spot-inside-requires
+spot-inside-requires c κs = search needs
 
 enum-known-first : tie.Need-enum-known-first
 enum-known-first c = search needs
@@ -58,10 +58,10 @@ returns-2 c =
     let f = c .before .before in
     let k = f .before .before .before in
     let a = start k .args in
-    painted-none (a .p) (a .cells .now) _ (line-no-first (a .p .view) (a .s) (clipped-is k) (found-is (a .p .view) _ _ _ (f .before .frame-of .ensures) (f .spot .ensures) (c .enum-told2 .given .1)))
+    painted-none (a .p) (a .cells .now) _ (line-no-first (a .p .view) (a .s) (clipped-is k) (found-first (a .p .view) (a .s) (clipped-is k) (f .before .frame-of .ensures) (f .spot-inside .ensures) (c .enum-told2 .given .1)))
 
-spot-requires-2 : tie.Need-spot-requires-2
-spot-requires-2 c κs = search needs
+spot-inside-requires-2 : tie.Need-spot-inside-requires-2
+spot-inside-requires-2 c κs = search needs
 
 enum-known-second : tie.Need-enum-known-second
 enum-known-second c = search needs
@@ -76,7 +76,7 @@ returns-3 c =
     let n = f .before .before .before in
     let k = n .before .before in
     let a = start k .args in
-    painted-none (a .p) (a .cells .now) _ (line-no-second (a .p .view) (a .s) (clipped-is k) (first-is f) (found-is (a .p .view) _ _ _ (n .frame-of .ensures) (g .spot2 .ensures) (c .enum-told3 .given .1)))
+    painted-none (a .p) (a .cells .now) _ (line-no-second (a .p .view) (a .s) (clipped-is k) (first-is f) (found-second (a .p .view) (a .s) (clipped-is k) (n .frame-of .ensures) (g .spot-inside2 .ensures) (c .enum-told3 .given .1)))
 
 paint-walk-requires : tie.Need-paint-walk-requires
 paint-walk-requires c κs = search needs
@@ -92,7 +92,7 @@ returns-4 c =
     let k = n .before .before in
     let a = start k .args in
     painted-same (a .p) _ _ _ _ _ _
-    (sym (line-between (a .p .view) (a .s) (clipped-is k) (first-is f) (found-is (a .p .view) _ _ _ (n .frame-of .ensures) (g .before .before .spot2 .ensures) (g .second .given .1))))
+    (sym (line-between (a .p .view) (a .s) (clipped-is k) (first-is f) (found-second (a .p .view) (a .s) (clipped-is k) (n .frame-of .ensures) (g .before .before .spot-inside2 .ensures) (g .second .given .1))))
     refl (c .before .before .paint-walk .ensures)
 
 pub paint-line-spec : {M : Type 1} → statement M
@@ -104,11 +104,11 @@ paint-line-spec =
     enum-told
     returns
     frame-of-requires
-    spot-requires
+    spot-inside-requires
     enum-known-first
     enum-told-2
     returns-2
-    spot-requires-2
+    spot-inside-requires-2
     enum-known-second
     enum-told-3
     returns-3

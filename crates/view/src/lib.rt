@@ -1,0 +1,4 @@
+// From bounds to dots: get_point's formula, and a label's place (Painter::get_point and Canvas::render of
+// src/canvas.rs in ratatui-widgets). Every public function is total; its contract says that the answer
+// equals a definition in specs/.
+pub mod point; // point.rt: from bounds to a dot, and to a label's place
