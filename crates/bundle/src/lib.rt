@@ -1,7 +1,7 @@
 // Reads a bundle of picture files on standard input, part by part. A part is its length, in one byte
 // or in four little-endian, and its bytes.
-use picture::fields::number8;
-use picture::fields::number32;
+use form::fields::number8;
+use form::fields::number32;
 use report::printing::held;
 ghost use Rattle.io.specs.Counts.{Counts};
 

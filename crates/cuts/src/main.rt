@@ -1,8 +1,8 @@
 // Answers questions for a clipped line: each is four bounds (left, right, bottom, top) and a line's x1,
 // y1, x2, y2, as 8-byte floats, little-endian. The answer is a line: `line CUTS` or `none CUTS`, with
 // the number of cuts that clipping makes.
-use picture::fields::from_bits;
-use picture::fields::number64;
+use form::fields::from_bits;
+use form::fields::number64;
 use walk::clip::Bounds;
 use walk::clip::Clipped;
 use walk::clip::Segment;

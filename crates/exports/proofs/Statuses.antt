@@ -16,8 +16,9 @@ use Rattle.ledger.specs.Model.{State, badCanvas, refusalOn}
 use Rattle.ledger.specs.Contracts.{acceptedAnswer, answerUnless, answerOn}
 use Rattle.ledger.specs.PointCall.{pointRefusal, pointedTo, pointedUnless, pointedOn}
 use Rattle.ledger.specs.declared.state.Canvas.{Canvas}
-use Rattle.picture.specs.Records.{openingEnd, recordEnd}
-use Rattle.picture.specs.Run.{Ended, openingRefusal, openedState, refusalAt, recordState, runFrom, recordsFrom, areaOf, drawnOf, pictureBy, ended, pictureOf}
+use Rattle.form.specs.Forms.{openingEnd, recordEnd}
+use Rattle.picture.specs.Run.{Ended, openingRefusal, openedState, runFrom, recordsFrom, areaOf, drawnOf, pictureBy, ended, pictureOf}
+use Rattle.records.specs.Steps.{refusalAt, recordState}
 use Rattle.picture.specs.declared.run.Stop.{Stop}
 use Rattle.picture.specs.declared.run.Stop.the-variants as stop
 use Rattle.exports.specs.Draw.{drawStatus, IsShown}

@@ -2,9 +2,9 @@
 // Every function is total; its contract says that its answer and all that was lent equal a
 // definition. A slice goes over as a pointer and a length.
 use canvas::calls::get_point;
+use form::fields::number16;
 use ledger::state::Canvas;
 use ledger::state::Pointed;
-use picture::fields::number16;
 use picture::run::Drawn;
 use picture::run::draw_picture;
 use report::screen::blank_screen;

@@ -11,9 +11,9 @@ use lib.Ieee.Bits.{ofBits-toBits, toBits-lt}
 use lib.ListN.{length, getD, drop, length-append, length-drop}
 use lib.Seq.{getD-drop, drop-drop, drop-at}
 use Rattle.floats.specs.Arithmetic.{bits}
-use Rattle.picture.specs.Fields.{little, numberAt}
+use Rattle.form.specs.Fields.{little, numberAt}
 use Rattle.picture.specs.Encoding.{bytesOf, floatBytes, IsFloat}
-use Rattle.picture.proofs.Numbers.{whole}
+use Rattle.form.proofs.Numbers.{whole}
 
 length-bytes : (n value : ℕ) → length (bytesOf n value) ≡ n
 length-bytes zero value = refl

@@ -19,14 +19,17 @@ use Rattle.ledger.specs.declared.state.Answer.{Answer}
 use Rattle.ledger.specs.declared.state.Answer.the-variants as answer
 use Rattle.ledger.proofs.CallSteps.{or-none}
 use Rattle.ledger.proofs.Promise.{promise}
-use Rattle.picture.specs.Records.{openingOf, openingEnd, recordCall, recordEnd, recordForm}
-use Rattle.picture.specs.Run.{formOrSize, openingRefusal, openedState, refusalAt, recordState, Ended, runFrom, recordsFrom, Picture, areaOf, drawnOf, pictureBy, ended, pictureOf}
+use Rattle.picture.specs.Opening.{openingOf}
+use Rattle.form.specs.Forms.{openingEnd, recordEnd, recordForm}
+use Rattle.records.specs.Records.{recordCall}
+use Rattle.picture.specs.Run.{formOrSize, openingRefusal, openedState, Ended, runFrom, recordsFrom, Picture, areaOf, drawnOf, pictureBy, ended, pictureOf}
+use Rattle.records.specs.Steps.{refusalAt, recordState}
 use Rattle.picture.specs.Meaning.{Entries, end, entry, entryUnless, entriesFrom, entriesOf, callsOf}
 use Rattle.picture.specs.Faithful.{Result, lastCall, judgedLast, judged, resultOf, Faithful}
 use Rattle.picture.specs.declared.run.Stop.{Stop}
 use Rattle.picture.specs.declared.run.Stop.the-variants as stop
 use Rattle.picture.specs.declared.run.Drawn.the-variants as drawn
-use Rattle.picture.proofs.Steps.{further}
+use Rattle.picture.proofs.RunSteps.{further}
 
 -- ---- the canvas keeps the opening's size
 

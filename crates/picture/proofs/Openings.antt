@@ -1,23 +1,24 @@
 -- What an opening is refused with before its call, from the first test to the last, and what it leaves.
-use mathlib.Core.Path.{_≡_, refl, sym, _∙_}
+use mathlib.Core.Path.{_≡_, refl}
 use mathlib.Core.Bool.{true, false, _||_}
 use mathlib.Core.List.{List}
 use Prim.Native.Nat.{ℕ, zero, suc, _+_, _≤_, _<_}
-use native.Mathlib.Omega.{arith}
 use lib.Dec.{ltb}
 use lib.ListN.{length}
 use borrow.Author.Tests.{lt-ltb, le-ltb, le-leb, lt-leb}
-use Rattle.ledger.specs.Calls.{Opening, openRefusal}
+use Rattle.ledger.specs.Calls.{openRefusal}
 use Rattle.ledger.specs.Model.{zeroCanvas, openCells}
 use Rattle.ledger.specs.Contracts.{openCalled}
 use Rattle.ledger.specs.declared.state.Called.{Called}
-use Rattle.picture.specs.Fields.{numberAt, sizeBy}
-use Rattle.picture.specs.Records.{maxFile, openingMap, openingWidths, openingPart, openingFrom, openingOf, openingEnd, openingForm}
+use Rattle.form.specs.Fields.{numberAt, sizeBy}
+use Rattle.form.specs.Forms.{maxFile, openingMap, openingWidths, openingPart, openingEnd, openingForm}
+use Rattle.picture.specs.Opening.{openingFrom, openingOf}
 use Rattle.picture.specs.declared.opening.Fields.{Fields}
-use Rattle.picture.specs.Run.{stepUnless, stepBy, tooLarge, formOrSize, openingRefusal, openedState, openingTaken}
-use Rattle.picture.specs.declared.records.Step.{Step}
-use Rattle.picture.specs.declared.records.Step.the-variants as step
-use Rattle.picture.proofs.Steps.{opened-step}
+use Rattle.records.specs.Steps.{stepBy}
+use Rattle.picture.specs.Run.{tooLarge, formOrSize, openingRefusal, openedState, openingTaken}
+use Rattle.records.specs.declared.steps.Step.{Step}
+use Rattle.records.specs.declared.steps.Step.the-variants as step
+use Rattle.records.proofs.RecordSteps.{opened-step}
 
 pub too-long : (file : List ℕ) (widest highest : ℕ) → maxFile < length file → 17 ≡ formOrSize file widest highest
 unfolding formOrSize openingForm

@@ -8,7 +8,7 @@ use Rattle.walk.specs.Tabulate.{tabulate}
 use Rattle.walk.proofs.Tabulated.{tabulate-same}
 use Rattle.shapes.specs.declared.painters.Pair.{Pair}
 use Rattle.ledger.specs.Promise.{Every, nil, cons}
-use Rattle.picture.specs.Records.{pairAt, pairsAt}
+use Rattle.lists.specs.Lists.{pairAt, pairsAt}
 use Rattle.picture.specs.Encoding.{floatBytes, pairBytes, WritablePair}
 use Rattle.picture.proofs.ByteLists.{drop-past, float-back}
 

@@ -15,8 +15,10 @@ use Rattle.shapes.specs.declared.painters.Shape.the-variants.{Line, FilledLine,
 use Rattle.ledger.specs.Calls.{Call, draw, points, dot, layer, marker, print, render}
 use Rattle.ledger.specs.declared.labels.Choice.{Choice}
 use Rattle.ledger.specs.declared.labels.Choice.the-variants.{Nothing, Colour}
-use Rattle.picture.specs.Fields.{stands, numberAt}
-use Rattle.picture.specs.Records.{isUnknown, kindAt, mapAt, pairsAt, widthsOf, callOf, recordWidths, recordCall, recordEnd}
+use Rattle.form.specs.Fields.{stands, numberAt}
+use Rattle.form.specs.Forms.{isUnknown, kindAt, mapAt, widthsOf, recordWidths, recordEnd}
+use Rattle.lists.specs.Lists.{pairsAt}
+use Rattle.records.specs.Records.{callOf, recordCall}
 use Rattle.picture.specs.Encoding.{bytesOf, segmentBytes, pairBytes, shapeBytes, labelBytes, recordBytes, IsFloat, HasFloats, WritableShape, WritableChoice, Writable}
 use Rattle.picture.proofs.ByteLists.{drop-past, number-back, float-back}
 use Rattle.picture.proofs.PairBytes.{length-pairs, pairs-back}

@@ -8,11 +8,13 @@ use lib.Seq.{getD-drop, drop-drop}
 use borrow.Author.Tests.{lt-ltb, le-ltb}
 use Rattle.ledger.specs.Calls.{Opening, Call}
 use Rattle.ledger.specs.Promise.{Every, cons}
-use Rattle.picture.specs.Fields.{stands}
-use Rattle.picture.specs.Records.{maxFile, recordForm, recordCall, recordEnd, openingOf, openingEnd, openingForm}
+use Rattle.form.specs.Fields.{stands}
+use Rattle.form.specs.Forms.{maxFile, recordForm, recordEnd, openingEnd, openingForm}
+use Rattle.records.specs.Records.{recordCall}
+use Rattle.picture.specs.Opening.{openingOf}
 use Rattle.picture.specs.Meaning.{entriesFrom, callsOf}
 use Rattle.picture.specs.Encoding.{recordBytes, recordsBytes, fileBytes, WritableOpening, Writable, RoundTrip}
-use Rattle.picture.proofs.Forms.{well-formed}
+use Rattle.form.proofs.FormSteps.{well-formed}
 use Rattle.picture.proofs.ByteLists.{drop-past, getD-left, number-back, float-back}
 use Rattle.picture.proofs.ReadBack.{read-back}
 use Rattle.picture.proofs.WrittenBytes.{bytes-file}

@@ -8,17 +8,17 @@ use Rattle.ledger.specs.Ledger.{unless}
 use Rattle.ledger.specs.Model.{State, zeroCanvas}
 use Rattle.ledger.specs.Promise.{openState}
 use Rattle.ledger.specs.Contracts.{given}
-use Rattle.picture.specs.Records.{openingOf, openingEnd}
-use Rattle.picture.specs.Run.{stepUnless, formOrSize, openingRefusal, openedState, openingTaken, Ended, recordsFrom, ranBy, areaOf, finished, ended, pictureOf}
-use Rattle.picture.specs.declared.records.Step.the-variants as step
-use Rattle.picture.specs.declared.records.Taken.{Taken}
+use Rattle.picture.specs.Opening.{openingOf}
+use Rattle.form.specs.Forms.{openingEnd}
+use Rattle.picture.specs.Run.{formOrSize, openingRefusal, openedState, openingTaken, Ended, recordsFrom, ranBy, areaOf, finished, ended, pictureOf}
+use Rattle.records.specs.declared.steps.Step.the-variants as step
+use Rattle.records.specs.declared.steps.Taken.{Taken}
 use Rattle.picture.specs.declared.run.Ran.{Ran}
-use Rattle.picture.specs.declared.run.Stop.{Stop}
 use Rattle.picture.specs.declared.run.Stop.the-variants as stop
 use Rattle.picture.specs.declared.run.Drawn.{Drawn}
 use Rattle.picture.specs.declared.run.Drawn.the-variants as drawn
-use Rattle.picture.proofs.Kept.{same-labels}
-use Rattle.picture.proofs.Steps.{next-accepted, refused-number}
+use Rattle.records.proofs.Kept.{same-labels}
+use Rattle.records.proofs.RecordSteps.{next-accepted, refused-number}
 
 -- the answer, the stores and the screen that the contract asks for
 abbrev pub Gives : List ℕ → ℕ → ℕ → List ℕ → List ℕ → List ℕ → Drawn → List ℕ → List ℕ → List ℕ → Type 0

@@ -1,6 +1,6 @@
 -- A plain definition of writing a picture file: every field stands, but a label's colour that is none.
 -- The theorem `RoundTrip` says that what it writes is read back, so that the format is pinned from both sides.
-use Prim.Native.Nat.{ℕ, zero, suc, _*_, _/_, _%_, _<_, _≤_, _^_}
+use Prim.Native.Nat.{ℕ, zero, suc, _/_, _%_, _<_, _≤_, _^_}
 use mathlib.Core.Path.{_≡_}
 use mathlib.Core.Bool.{true}
 use mathlib.Core.List.{List, [], _∷_, _++_}
@@ -14,7 +14,8 @@ use Rattle.ledger.specs.Calls.{Opening, Call, draw, points, dot, layer, marker,
 use Rattle.ledger.specs.Promise.{Every}
 use Rattle.ledger.specs.declared.labels.Choice.{Choice}
 use Rattle.ledger.specs.declared.labels.Choice.the-variants.{Nothing, Colour}
-use Rattle.picture.specs.Records.{maxFile, openingOf, openingForm}
+use Rattle.form.specs.Forms.{maxFile, openingForm}
+use Rattle.picture.specs.Opening.{openingOf}
 use Rattle.picture.specs.Meaning.{entriesOf, callsOf}
 
 -- 'Little-endian': a number in n bytes, the lowest first

@@ -7,8 +7,7 @@ use Rattle.ledger.specs.Screen.{cellOn}
 use Rattle.ledger.specs.declared.screen.ScreenCell.{ScreenCell}
 use Rattle.ledger.specs.Calls.{Opening, Call, render}
 use Rattle.ledger.specs.Ledger.{opened, Reply, refused, painted, done, shown, ledgerReplies}
-use Rattle.ledger.specs.declared.screen.Area.{Area}
-use Rattle.picture.specs.Records.{openingOf}
+use Rattle.picture.specs.Opening.{openingOf}
 use Rattle.picture.specs.Run.{openingRefusal, pictureOf}
 use Rattle.picture.specs.Meaning.{Entries, end, broken, entry, entriesFrom, entriesOf, callsOf}
 use Rattle.picture.specs.declared.run.Drawn.{Drawn}

@@ -5,7 +5,8 @@ use mathlib.Core.List.{List, [], _∷_}
 use lib.Dec.{ltb}
 use lib.ListN.{length}
 use Rattle.ledger.specs.Calls.{Call}
-use Rattle.picture.specs.Records.{openingEnd, recordCall, recordEnd, recordForm}
+use Rattle.form.specs.Forms.{openingEnd, recordEnd, recordForm}
+use Rattle.records.specs.Records.{recordCall}
 
 -- the records one after the other, each with the place of its first byte, to the end of the file or to a record that breaks the form, with its number
 pub data Entries : Type 0 where

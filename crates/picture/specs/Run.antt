@@ -6,34 +6,22 @@ use lib.Dec.{ltb}
 use lib.ListN.{length}
 use Rattle.ledger.specs.Calls.{Opening, render, first, openRefusal}
 use Rattle.ledger.specs.Ledger.{unless}
-use Rattle.ledger.specs.Model.{State, orRefusal, refusalOn, stateAfter, zeroCanvas}
+use Rattle.ledger.specs.Model.{State, orRefusal, stateAfter, zeroCanvas}
 use Rattle.ledger.specs.Promise.{openState}
 use Rattle.ledger.specs.Contracts.{given, answerOn, screenOn}
 use Rattle.ledger.specs.declared.screen.Area.{Area}
 use Rattle.ledger.specs.declared.state.Canvas.{Canvas}
 use Rattle.ledger.specs.declared.state.Answer.{Answer}
 use Rattle.ledger.specs.declared.state.Answer.the-variants as answer
-use Rattle.picture.specs.Records.{openingOf, openingEnd, openingForm, recordCall, recordEnd, recordForm}
-use Rattle.picture.specs.declared.records.Step.{Step}
-use Rattle.picture.specs.declared.records.Step.the-variants as step
-use Rattle.picture.specs.declared.records.Taken.{Taken}
+use Rattle.form.specs.Forms.{openingEnd, openingForm, recordEnd}
+use Rattle.records.specs.Steps.{stepUnless, refusalAt, recordState}
+use Rattle.picture.specs.Opening.{openingOf}
+use Rattle.records.specs.declared.steps.Taken.{Taken}
 use Rattle.picture.specs.declared.run.Ran.{Ran}
 use Rattle.picture.specs.declared.run.Stop.{Stop}
 use Rattle.picture.specs.declared.run.Stop.the-variants as stop
 use Rattle.picture.specs.declared.run.Drawn.{Drawn}
 use Rattle.picture.specs.declared.run.Drawn.the-variants as drawn
-
--- the next place, or the refusal's number
-abbrev pub stepUnless : ℕ → ℕ → Step
-stepUnless zero next = step.Next next
-stepUnless (suc number) next = step.Refused (suc number)
-
--- a call's answer as a step
-abbrev pub stepBy : Answer → ℕ → Step
-stepBy (answer.Refused number) next = step.Refused number
-stepBy (answer.Painted n) next = step.Next next
-stepBy answer.Done next = step.Next next
-stepBy (answer.Rendered n labelCells) next = step.Next next
 
 -- ---- the opening: the form of its bytes, a size above the limits that the caller gives ('refuses more than 80 columns or 24 rows with 1'), then the call's own
 
@@ -54,17 +42,6 @@ openingTaken file widest highest cells labels = record {
   canvas = openedState file widest highest cells labels .canvas;
   step = stepUnless (openingRefusal file widest highest (length cells) (length labels)) (openingEnd file);
 }
-
--- ---- a record: the form of its bytes, then the call's own
-
-unfoldable pub refusalAt : State → List ℕ → ℕ → ℕ
-refusalAt s file at = orRefusal (recordForm file at) (refusalOn s (recordCall file at))
-
-unfoldable pub recordState : State → List ℕ → ℕ → State
-recordState s file at = unless (recordForm file at) s (stateAfter s (recordCall file at))
-
-abbrev pub recordTaken : State → List ℕ → ℕ → Taken
-recordTaken s file at = record { canvas = recordState s file at .canvas; step = stepUnless (refusalAt s file at) (recordEnd file at) }
 
 -- ---- records one after the other, to the end of the file or the first that is refused; 'records already accepted stand'
 

@@ -1,20 +1,19 @@
 // The opening of a picture file: size, bit map, and the fields whose bit stands.
-use crate::fields::byte_field;
-use crate::fields::number_field;
-use crate::fields::number16;
-use crate::fields::real_field;
-use crate::records::Step;
-use crate::records::Taken;
-use crate::records::step_of;
 use canvas::calls::open;
 use canvas::calls::zero_canvas;
+use form::fields::byte_field;
+use form::fields::number_field;
+use form::fields::number16;
+use form::fields::real_field;
+use records::steps::Step;
+use records::steps::Taken;
+use records::steps::step_of;
 use walk::clip::Bounds;
 ghost use mathlib.Core.Path.{_≡_};
-ghost use Prim.Native.Nat.{_≤_};
-ghost use lib.ListN.{length};
 ghost use Rattle.ledger.specs.Model.{zeroCanvas};
-ghost use Rattle.picture.specs.Fields.{sizeBy};
-ghost use Rattle.picture.specs.Records.{openingWidths, openingFrom};
+ghost use Rattle.form.specs.Fields.{sizeBy};
+ghost use Rattle.form.specs.Forms.{openingWidths};
+ghost use Rattle.picture.specs.Opening.{openingFrom};
 ghost use Rattle.picture.specs.Run.{openedState, openingTaken};
 
 // The opening's fields, and the place after them.

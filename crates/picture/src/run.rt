@@ -1,11 +1,11 @@
 // A whole picture file: opening, records, and a render on a lent screen.
 use crate::opening::open_picture;
-use crate::records::Step;
-use crate::records::take_record;
 use canvas::calls::render;
 use ledger::screen::Area;
 use ledger::state::Answer;
 use ledger::state::Canvas;
+use records::steps::Step;
+use records::steps::take_record;
 ghost use mathlib.Core.Path.{_≡_};
 ghost use Rattle.ledger.specs.Contracts.{given};
 ghost use Rattle.picture.specs.Run.{drawnOf, recordsFrom, ranBy, finished, pictureOf};

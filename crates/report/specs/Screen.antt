@@ -5,7 +5,7 @@ use mathlib.Core.List.{List}
 use lib.Dec.{ltb}
 use lib.ListN.{length, set}
 use Rattle.view.specs.Limits.{reset}
-use Rattle.picture.specs.Fields.{numberAt}
+use Rattle.form.specs.Fields.{numberAt}
 
 -- 'blank (0020, Reset, Reset)': the first n cells
 unfoldable pub blanked : List ℕ → ℕ → List ℕ

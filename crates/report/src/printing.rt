@@ -1,7 +1,7 @@
 // What a picture file prints. The screen is lent as far as the picture's size goes, and blanked first.
 use crate::screen::blank_screen;
 use crate::screen::picture_size;
-use picture::fields::number16;
+use form::fields::number16;
 use picture::run::Drawn;
 use picture::run::draw_picture;
 use text::listing::write_listing;

@@ -1,5 +1,5 @@
 // The screen that a picture is rendered on: its size in words, and its blank cells.
-use picture::fields::number16;
+use form::fields::number16;
 ghost use mathlib.Core.Path.{_≡_};
 ghost use Rattle.report.specs.Screen.{blankScreen, pictureSize};
 

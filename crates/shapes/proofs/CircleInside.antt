@@ -1,4 +1,4 @@
--- No point of a circle is outside bounds that its outermost points are within: a cosine or a sine is at most 1 in size, and a product with the radius and a sum keep the order.
+-- Every point of a circle is inside bounds that its outermost points are within: a cosine or a sine is at most 1 in size, and a product with the radius and a sum keep the order.
 use mathlib.Core.Path.{_≡_, refl}
 use mathlib.Core.Bool.{Bool, true, false, _&&_}
 use Prim.Native.Nat.{ℕ, _*_, _≤_, _<_}
@@ -13,7 +13,10 @@ use Rattle.floats.proofs.Monotone.{le-not-above, above-highest, below-lowest, l
 use Rattle.angles.specs.Angles.{cosAt, sinAt}
 use Rattle.angles.proofs.AngleSizes.{atMostOne, cos-sized, sin-sized}
 use Rattle.walk.specs.declared.clip.Bounds.{Bounds}
-use Rattle.view.specs.Point.{outsideBounds}
+use Rattle.grids.proofs.Cases.{both}
+use Rattle.view.specs.Point.{outsideBounds, insideBounds}
+use Rattle.shapes.specs.Drawing.{CircleInDomain}
+use Rattle.shapes.proofs.InsideOrOutside.{NumberBounds, point-number, not-outside-inside}
 
 -- ---- a product with the radius lies between those with -1 and 1
 not-above-one : (s : Bool) (m : ℕ) (e : ℤ) → m * up e ≤ down e → below false (1 * 1 * down e) s (m * up e * 1) ≡ false
@@ -65,11 +68,11 @@ within : (b : Bounds) (x y : Float) → lt x (b .left) ≡ false → lt (b .righ
 unfolding outsideBounds
 within b x y left right bottom top = rw (left, right, bottom, top)
 
-pub circle-inside : (b : Bounds) (x y radius left right bottom top : Float)
+not-outside : (b : Bounds) (x y radius left right bottom top : Float)
     → left ≡ mulAddOf radius (neg 1·0) x → right ≡ mulAddOf radius 1·0 x → bottom ≡ mulAddOf radius (neg 1·0) y → top ≡ mulAddOf radius 1·0 y
     → tested b radius left right bottom top ≡ true
     → (angle : ℕ) → angle < 360 → outsideBounds b (mulAddOf radius (cosAt angle) x) (mulAddOf radius (sinAt angle) y) ≡ false
-circle-inside b x y radius left right bottom top el er eb et h angle a =
+not-outside b x y radius left right bottom top el er eb et h angle a =
     let sides = le (b .left) left && le right (b .right) in
     let ends = le (b .bottom) bottom && le top (b .top) in
     let first = and-true-left (lt (bits 0) radius && sides) ends h in
@@ -83,3 +86,24 @@ circle-inside b x y radius left right bottom top el er eb et h angle a =
     (not-above radius (cosAt angle) x r c (b .right) (rw er at (and-true-right (le (b .left) left) (le right (b .right)) s)))
     (not-below radius (sinAt angle) y r d (b .bottom) (rw eb at (and-true-left (le (b .bottom) bottom) (le top (b .top)) e)))
     (not-above radius (sinAt angle) y r d (b .top) (rw et at (and-true-right (le (b .bottom) bottom) (le top (b .top)) e)))
+
+-- the tests are with numbers alone
+tested-numbers : (b : Bounds) (radius left right bottom top : Float) → tested b radius left right bottom top ≡ true → NumberBounds b
+tested-numbers b radius left right bottom top h =
+    let sides = le (b .left) left && le right (b .right) in
+    let ends = le (b .bottom) bottom && le top (b .top) in
+    let t = both (lt (bits 0) radius && sides) ends h in
+    let s = both (le (b .left) left) (le right (b .right)) (both (lt (bits 0) radius) sides (t .0) .1) in
+    let e = both (le (b .bottom) bottom) (le top (b .top)) (t .1) in (
+      (le-numbers (b .left) left (s .0) .0, le-numbers right (b .right) (s .1) .1),
+      (le-numbers (b .bottom) bottom (e .0) .0, le-numbers top (b .top) (e .1) .1),
+    )
+
+pub circle-inside : (b : Bounds) (x y radius left right bottom top : Float) → CircleInDomain x y radius
+    → left ≡ mulAddOf radius (neg 1·0) x → right ≡ mulAddOf radius 1·0 x → bottom ≡ mulAddOf radius (neg 1·0) y → top ≡ mulAddOf radius 1·0 y
+    → tested b radius left right bottom top ≡ true
+    → (angle : ℕ) → angle < 360 → insideBounds b (mulAddOf radius (cosAt angle) x) (mulAddOf radius (sinAt angle) y) ≡ true
+circle-inside b x y radius left right bottom top d el er eb et h angle a =
+    not-outside-inside b (mulAddOf radius (cosAt angle) x) (mulAddOf radius (sinAt angle) y) (tested-numbers b radius left right bottom top h)
+    (point-number radius (cosAt angle) x (d .1 .1) (cos-sized angle a) (d .0)) (point-number radius (sinAt angle) y (d .1 .1) (sin-sized angle a) (d .1 .0))
+    (not-outside b x y radius left right bottom top el er eb et h angle a)

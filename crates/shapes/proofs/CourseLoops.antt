@@ -97,6 +97,9 @@ halved a b h = omega arith
 fourth : (a b : ℕ) → a ≤ b → a / 4 ≤ b / 4
 fourth a b h = omega arith
 
+pub braille-below : (columns column row right low end : ℕ) → column ≤ right → row ≤ low → low / 4 * columns + right / 2 < end → row / 4 * columns + column / 2 < end
+braille-below columns column row right low end h g l = cell-below columns (column / 2) (row / 4) (right / 2) (low / 4) end (halved column right h) (fourth row low g) l
+
 module _ (p : Painter) (e : Ends) (f : Fits16 e) (c : Course) (cells : List ℕ) (end right low last : ℕ) (w : c ≡ courseOf e) (held : end ≡ cellsHeld cells (p .columns) (p .rows))
     (r : right ≡ max (e .x1) (e .x2)) (b : low ≡ max (e .y1) (e .y2)) (l : last < end) where
   pub braille-held : last ≡ low / 4 * p .columns + right / 2 → AllHeld p (brailleCell (p .columns)) cells c
@@ -104,7 +107,7 @@ module _ (p : Painter) (e : Ends) (f : Fits16 e) (c : Course) (cells : List ℕ)
       let d = courseDot (courseAfter k c) in
       let i = course-within e f c k w h in
       subst (λ (n : ℕ). brailleCell (p .columns) d < n) held
-      (cell-below (p .columns) (d .column / 2) (d .row / 4) (right / 2) (low / 4) end (halved _ _ (rw r (i .right))) (fourth _ _ (rw b (i .below))) (rw j at l))
+      (braille-below (p .columns) (d .column) (d .row) right low end (rw r (i .right)) (rw b (i .below)) (rw j at l))
 
   pub plain-held : last ≡ low * p .columns + right → AllHeld p (plainCell (p .columns)) cells c
   plain-held j k h =

@@ -1,7 +1,6 @@
 -- Lists of dots painted one after the other: a list in two parts, one more dot of a list by numbers, of a circle and of pairs, and how many dots there are.
 use Prim.Native.Nat.{ℕ, _+_, _-_, _*_, _^_, _≤_, _<_, min, max}
 use mathlib.Core.Path.{_≡_, refl, sym, ap}
-use mathlib.Core.Bool.{false}
 use mathlib.Core.List.{List, [], _∷_, _++_, append-assoc, append-nil}
 use native.Mathlib.Numerals.{add-one}
 use native.Mathlib.Omega.{arith}
@@ -9,7 +8,7 @@ use lib.Ieee.{Float}
 use lib.ListN.{length, length-append, take, getD}
 use lib.Seq.{take-suc}
 use Rattle.floats.specs.Polyfills.{mulAddOf}
-use Rattle.angles.specs.Angles.{cosAt, sinAt, angleTable}
+use Rattle.angles.specs.Angles.{angleTable}
 use Rattle.angles.proofs.AnglePlaces.{angle-cos, angle-sin}
 use Rattle.walk.specs.Tabulate.{tabulate}
 use Rattle.walk.specs.Line.{apart}
@@ -17,7 +16,7 @@ use Rattle.walk.specs.declared.bresenham.Dot.{Dot}
 use Rattle.walk.proofs.Tabulated.{length-tabulate}
 use Rattle.columns.specs.Columns.{columnDots}
 use Rattle.grids.proofs.Words.{foldl-append}
-use Rattle.view.specs.Point.{outsideBounds, pointOf, frameOf, spotOf}
+use Rattle.view.specs.Point.{pointOf, frameOf, spotOf}
 use Rattle.shapes.specs.Shapes.{flat, dotAt, pointDots, columnTo, anglePoint, angles, circlePoints, pairDots}
 use Rattle.shapes.specs.Drawing.{paintedBy}
 use Rattle.shapes.specs.declared.painters.Pair.{Pair}
@@ -90,13 +89,6 @@ angle-next p x y radius before between after k m n t frame d u v f a l e g b i h
     rw add-one
     (painted-then p before between after (angles (p .view) x y radius k) (pointDots (anglePoint (p .view) x y radius k)) m n h
     (rw (i, b, spot-point, e, g, a, angle-cos k d l, angle-sin k d l) at w))
-
--- an angle's point that is not outside the bounds, by the frame
-pub angle-inside : (v : View) (x y radius : Float) (k : ℕ) (t : List Float) (frame : Frame) (d u w : Float)
-    → t ≡ angleTable → k < 360 → u ≡ mulAddOf radius (getD t (k * 2) d) x → w ≡ mulAddOf radius (getD t (k * 2 + 1) d) y → frame ≡ frameOf v
-    → outsideBounds (v .bounds) (mulAddOf radius (cosAt k) x) (mulAddOf radius (sinAt k) y) ≡ false → outsideBounds (frame .view .bounds) u w ≡ false
-unfolding frameOf
-angle-inside v x y radius k t frame d u w a l e g b h = rw (b, e, g, a, angle-cos k d l, angle-sin k d l) h
 
 pub circle-over : (v : View) (x y radius : Float) (k : ℕ) → k ≡ 360 → angles v x y radius k ≡ circlePoints v x y radius
 unfolding circlePoints

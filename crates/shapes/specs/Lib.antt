@@ -1,3 +1,4 @@
 -- What a reader must believe of shapes.
 pub mod Shapes
 pub mod Drawing
+pub mod HeldWords

@@ -2,6 +2,7 @@
 // definition in specs/ and gives their number.
 use angles::angle_table;
 use columns::paint_rows;
+use floats::domain::in_domain;
 use floats::methods::clamp;
 use floats::polyfills::mul_add;
 use grids::painting::cells_held;
@@ -11,21 +12,25 @@ use grids::painting::paint_braille;
 use grids::painting::paint_plain;
 use view::point::Found;
 use view::point::View;
+use view::point::dot_inside;
 use view::point::frame_of;
+use view::point::is_inside;
+use view::point::is_regular;
 use view::point::point;
 use view::point::spot;
 use view::point::spot_inside;
-use view::point::spot_known;
+use walk::bresenham::Dot;
 use walk::bresenham::Ends;
 use walk::clip::Bounds;
 use walk::clip::Clipped;
 use walk::clip::Segment;
 use walk::clip::clip_line;
 use walk::course::Course;
+use walk::course::ONE;
 ghost use mathlib.Core.Path.{_≡_};
 ghost use mathlib.Core.List.{[], _∷_};
-ghost use mathlib.Core.Bool.{true, false};
-ghost use Prim.Native.Nat.{ℕ, _+_, _*_, _/_, _<_, max};
+ghost use mathlib.Core.Bool.{true};
+ghost use Prim.Native.Nat.{ℕ, _+_, _*_, _/_, _^_, _<_, max};
 ghost use lib.ListN.{length, getD, set};
 ghost use lib.Bits.{bitOr};
 ghost use Rattle.floats.specs.Polyfills.{mulAddOf};
@@ -34,9 +39,10 @@ ghost use Rattle.walk.specs.Line.{lineDots};
 ghost use Rattle.walk.specs.Course.{courseOf, courseDot, courseAfter, courseDots};
 ghost use Rattle.grids.specs.Markers.{by, dotSize};
 ghost use Rattle.grids.specs.Painting.{cellsHeld};
-ghost use Rattle.view.specs.Point.{outsideBounds, pointOf};
+ghost use Rattle.view.specs.Point.{insideBounds, pointOf};
 ghost use Rattle.shapes.specs.Shapes.{flat, dotAt, pointDots, linePoints, columnTo, filledPoints, rectanglePoints, circlePoints};
-ghost use Rattle.shapes.specs.Drawing.{shapeDots, paintedBy};
+ghost use Rattle.shapes.specs.Drawing.{shapeDots, paintedBy, ReadyBraille, CircleInDomain};
+ghost use Rattle.shapes.specs.HeldWords.{wordAfter, wordsSet};
 
 // A shape with its floats. The pairs of a Points stand beside it.
 pub enum Shape {
@@ -122,6 +128,16 @@ fn set_held(cells: &mut [u32], i: usize, bits: u32, word: u32)
     cells[k + 4] = word;
 }
 
+// A dot of a Braille grid whose cell the store has.
+fn set_braille(cells: &mut [u32], p: Painter, d: Dot)
+    requires { ⌜ (p .marker ≡ 1) × (d .row / 4 * p .columns + d .column / 2 < cellsHeld (now cells) (p .columns) (p .rows)) ⌝ }
+    ensures { λ r. ⌜ now (cells .exit) ≡ paintedBy p (now (cells .entry)) (d ∷ []) ⌝ }
+{
+    let i = flat_index(p.columns, d.column / 2, d.row / 4);
+    let place = d.row % 4 * 2 + d.column % 2;
+    set_held(&mut *cells, i, 1 << place, p.word);
+}
+
 // The dots of a course on a Braille grid, where the cell of each is held, so that none is tested.
 fn held_braille(cells: &mut [u32], p: Painter, c: Course)
     requires { ⌜ (p .marker ≡ 1) × ((k : ℕ) → k < c .count → courseDot (courseAfter k c) .row / 4 * p .columns + courseDot (courseAfter k c) .column / 2 < cellsHeld (now cells) (p .columns) (p .rows)) ⌝ }
@@ -132,28 +148,72 @@ fn held_braille(cells: &mut [u32], p: Painter, c: Course)
     let mut k: u32 = 0;
     while k < n {
         let d = w.dot();
-        let i = flat_index(p.columns, d.column / 2, d.row / 4);
-        let place = d.row % 4 * 2 + d.column % 2;
-        set_held(&mut *cells, i, 1 << place, p.word);
+        set_braille(&mut *cells, p, d);
         w = w.step();
         k += 1;
     }
 }
 
-// The same on a grid of one dot a cell.
+// Bit and ink of cells that the store has: the k-th stands at word start + k * step + unit * the whole
+// part of from + k * slope.
+fn held_words(
+    cells: &mut [u32],
+    word: u32,
+    start: usize,
+    step: usize,
+    unit: usize,
+    from: u64,
+    slope: u64,
+    count: u32,
+)
+    requires { ⌜ (start + count * step < 2 ^ 64) × ((k : ℕ) → k < count → wordAfter start step unit from slope k + 4 < length (now cells)) ⌝ }
+    ensures { λ r. ⌜ now (cells .exit) ≡ wordsSet word (wordAfter start step unit from slope) (now (cells .entry)) count ⌝ }
+{
+    let mut at = start;
+    let mut place = from;
+    let mut k: u32 = 0;
+    while k < count {
+        let i = at + ((place / ONE) as usize) * unit;
+        cells[i + 3] = cells[i + 3] | 1;
+        cells[i + 4] = word;
+        at += step;
+        place = std::num::wrapping_add_u64(place, slope);
+        k += 1;
+    }
+}
+
+// The dots of a course on a grid of one dot a cell, where the cell of each is held, so that none is
+// tested. Each step goes a whole column or, where it does not, a whole row, so that only the other way
+// needs its fixed point.
 fn held_plain(cells: &mut [u32], p: Painter, c: Course)
-    requires { ⌜ (dotSize (p .marker) ≡ by 1 1) × ((k : ℕ) → k < c .count → courseDot (courseAfter k c) .row * p .columns + courseDot (courseAfter k c) .column < cellsHeld (now cells) (p .columns) (p .rows)) ⌝ }
+    requires { ⌜ (dotSize (p .marker) ≡ by 1 1) × ((k : ℕ) → k < c .count → courseDot (courseAfter k c) .row * p .columns + courseDot (courseAfter k c) .column < cellsHeld (now cells) (p .columns) (p .rows)) × ((k : ℕ) → k < c .count → (c .right ≡ 2 ^ 48 → courseDot (courseAfter k c) .column ≡ c .column / 2 ^ 48 + k) × ((c .right ≡ 2 ^ 48 → ⊥) → courseDot (courseAfter k c) .row ≡ c .row / 2 ^ 48 + k)) ⌝ }
     ensures { λ r. ⌜ now (cells .exit) ≡ paintedBy p (now (cells .entry)) (courseDots c (c .count)) ⌝ }
 {
-    let n = c.count;
-    let mut w = c;
-    let mut k: u32 = 0;
-    while k < n {
-        let d = w.dot();
-        let i = flat_index(p.columns, d.column, d.row);
-        set_held(&mut *cells, i, 1, p.word);
-        w = w.step();
-        k += 1;
+    let stride = (p.columns as usize) * 5;
+    if c.right == ONE {
+        let start = ((c.column / ONE) as usize) * 5;
+        held_words(
+            &mut *cells,
+            p.word,
+            start,
+            5,
+            stride,
+            c.row,
+            c.down,
+            c.count,
+        );
+    } else {
+        let start = ((c.row / ONE) as usize) * stride;
+        held_words(
+            &mut *cells,
+            p.word,
+            start,
+            stride,
+            5,
+            c.column,
+            c.right,
+            c.count,
+        );
     }
 }
 
@@ -360,10 +420,11 @@ pub fn paint_rectangle(
     a + b + c + d
 }
 
-// Whether no point of a circle is outside the bounds: its outermost ones are not, and no cosine or sine is
+// Whether every point of a circle is inside the bounds: its outermost ones are, and no cosine or sine is
 // above 1 in size.
 fn is_circle_inside(b: Bounds, x: f64, y: f64, radius: f64) -> bool
-    ensures { λ r. ⌜ (r ≡ true → (angle : ℕ) → angle < 360 → outsideBounds b (mulAddOf radius (cosAt angle) x) (mulAddOf radius (sinAt angle) y) ≡ false) ⌝ }
+    requires { ⌜ CircleInDomain x y radius ⌝ }
+    ensures { λ r. ⌜ (r ≡ true → (angle : ℕ) → angle < 360 → insideBounds b (mulAddOf radius (cosAt angle) x) (mulAddOf radius (sinAt angle) y) ≡ true) ⌝ }
 {
     let left = mul_add(radius, -1.0, x);
     let right = mul_add(radius, 1.0, x);
@@ -374,42 +435,60 @@ fn is_circle_inside(b: Bounds, x: f64, y: f64, radius: f64) -> bool
         & ((bottom >= b.bottom) & (top <= b.top))
 }
 
-// A dot, or none, on a Braille grid of which the store has `end` cells.
-fn found_braille(cells: &mut [u32], p: Painter, end: usize, found: Found) -> u64
-    requires { ⌜ (p .marker ≡ 1) × (end ≡ cellsHeld (now cells) (p .columns) (p .rows)) ⌝ }
-    ensures { λ r. ⌜ (r ≡ length (pointDots found)) × (now (cells .exit) ≡ paintedBy p (now (cells .entry)) (pointDots found)) ⌝ }
+// Whether the dots of points inside can be set without a test: the grid is a Braille one, no clamp acts
+// on its view, and the store has the cell of its last dot.
+fn is_ready_braille(cells: &[u32], p: Painter) -> bool
+    ensures { λ r. ⌜ (r ≡ true → ReadyBraille (now (cells .entry)) p) ⌝ }
 {
-    let Found::At(column, row) = found else {
-        return 0;
-    };
-    paint_braille(
-        &mut *cells,
-        p.columns,
-        end,
-        column as u32,
-        row as u32,
-        p.word,
-    );
-    1
+    let v = p.view;
+    if (p.marker == 1) & is_regular(v) {
+        let right = v.width as u32 - 1;
+        let low = v.height as u32 - 1;
+        let last = flat_index(p.columns, right / 2, low / 4);
+        let end = cells_held(cells, p.columns, p.rows);
+        return last < end;
+    }
+    false
 }
 
-// The points of a circle on a Braille grid. The marker is tested once, and where it is known that no
-// point is outside, the bounds are not tested.
-fn circle_braille(cells: &mut [u32], p: Painter, x: f64, y: f64, radius: f64, inside: bool) -> u64
-    requires { ⌜ (p .marker ≡ 1) × (inside ≡ true → (angle : ℕ) → angle < 360 → outsideBounds (p .view .bounds) (mulAddOf radius (cosAt angle) x) (mulAddOf radius (sinAt angle) y) ≡ false) ⌝ }
+// A circle every point of which is inside, on a Braille grid: 360 dots, none of which is tested.
+fn circle_inside(cells: &mut [u32], p: Painter, x: f64, y: f64, radius: f64) -> u64
+    requires { ⌜ ReadyBraille (now cells) p × ((angle : ℕ) → angle < 360 → insideBounds (p .view .bounds) (mulAddOf radius (cosAt angle) x) (mulAddOf radius (sinAt angle) y) ≡ true) ⌝ }
     ensures { λ r. ⌜ (r ≡ length (circlePoints (p .view) x y radius)) × (now (cells .exit) ≡ paintedBy p (now (cells .entry)) (circlePoints (p .view) x y radius)) ⌝ }
 {
     let table = angle_table();
     let frame = frame_of(p.view);
-    let end = cells_held(&*cells, p.columns, p.rows);
-    let mut painted: u64 = 0;
     let mut angle: usize = 0;
     while angle < 360 {
         let circle_x = mul_add(radius, table[angle * 2], x);
         let circle_y = mul_add(radius, table[angle * 2 + 1], y);
-        let found = spot_known(frame, inside, circle_x, circle_y);
-        painted += found_braille(&mut *cells, p, end, found);
+        let d = dot_inside(frame, circle_x, circle_y);
+        set_braille(&mut *cells, p, d);
         angle += 1;
+    }
+    360
+}
+
+// A circle some points of which are outside, on a Braille grid: each point is tested, and no dot.
+fn circle_partly(cells: &mut [u32], p: Painter, x: f64, y: f64, radius: f64) -> u64
+    requires { ⌜ ReadyBraille (now cells) p × CircleInDomain x y radius ⌝ }
+    ensures { λ r. ⌜ (r ≡ length (circlePoints (p .view) x y radius)) × (now (cells .exit) ≡ paintedBy p (now (cells .entry)) (circlePoints (p .view) x y radius)) ⌝ }
+{
+    let table = angle_table();
+    let frame = frame_of(p.view);
+    let v = p.view;
+    let b = v.bounds;
+    let mut painted: u64 = 0;
+    let mut turn: usize = 0;
+    while turn < 360 {
+        let turn_x = mul_add(radius, table[turn * 2], x);
+        let turn_y = mul_add(radius, table[turn * 2 + 1], y);
+        if is_inside(b, turn_x, turn_y) {
+            let d = dot_inside(frame, turn_x, turn_y);
+            set_braille(&mut *cells, p, d);
+            painted += 1;
+        }
+        turn += 1;
     }
     painted
 }
@@ -433,14 +512,18 @@ fn circle_any(cells: &mut [u32], p: Painter, x: f64, y: f64, radius: f64) -> u64
 }
 
 // A circle: the points at 360 angles, whose cosines and sines stand in a table. The table and the
-// frame are made once.
+// frame are made once, and what need not be tested for each point is tested here.
 pub fn paint_circle(cells: &mut [u32], p: Painter, x: f64, y: f64, radius: f64) -> u64
     ensures { λ r. ⌜ (r ≡ length (circlePoints (p .view) x y radius)) × (now (cells .exit) ≡ paintedBy p (now (cells .entry)) (circlePoints (p .view) x y radius)) ⌝ }
 {
-    if p.marker == 1 {
+    let known = in_domain(x) & in_domain(y) & in_domain(radius);
+    let ready = is_ready_braille(&*cells, p);
+    if known & ready {
         let v = p.view;
-        let inside = is_circle_inside(v.bounds, x, y, radius);
-        return circle_braille(&mut *cells, p, x, y, radius, inside);
+        if is_circle_inside(v.bounds, x, y, radius) {
+            return circle_inside(&mut *cells, p, x, y, radius);
+        }
+        return circle_partly(&mut *cells, p, x, y, radius);
     }
     circle_any(&mut *cells, p, x, y, radius)
 }

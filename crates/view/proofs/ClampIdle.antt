@@ -2,6 +2,7 @@
 pub mod Bounded
 pub mod Quotient
 pub mod Halves
+pub mod HalfMore
 pub mod Places
 pub mod Axis
 use mathlib.Core.Path.{_≡_, refl, sym, _∙_, subst}
@@ -36,6 +37,7 @@ use Rattle.view.specs.declared.point.Found.the-variants.{At, Nowhere}
 use Rattle.view.proofs.ClampIdle.Bounded.{one, quarter, AtMost, truncated, under-next}
 use Rattle.view.proofs.ClampIdle.Quotient.{product-bound, quotient-bound}
 use Rattle.view.proofs.ClampIdle.Halves.{round-cut}
+use Rattle.view.proofs.ClampIdle.HalfMore.{FromMinusQuarter, from-units}
 use Rattle.view.proofs.ClampIdle.Places.{value-stands, difference}
 use Rattle.view.proofs.ClampIdle.Axis.{Part, Distances, distances}
 
@@ -67,6 +69,20 @@ module _ {distance width : Float} (p : Part distance width) (k : ℕ) (few : k �
   quotient : (w : Float) → IsUnits w false (p .width) → 0 < p .width → AtMost (distance ⊗ whole k ⊘ w) (p .sign) ((4 * k + 1) * quarter)
   quotient w h W = let a = product in quotient-bound (distance ⊗ whole k) w (p .sign) (a .0) (p .width) k W (a .2) few (a .1) h
 
+  -- not below -1/4: the quotient has the sign of the part, and a negative part is 0
+  quotient-from : (w : Float) → IsUnits w false (p .width) → 0 < p .width → FromMinusQuarter (distance ⊗ whole k ⊘ w)
+  quotient-from w h W = go (p .sign) refl
+    where
+      none : (n z : ℕ) → 4 * n ≤ (4 * k + 1) * z → z ≡ 0 → 4 * n ≤ (4 * 0 + 1) * p .width
+      none n z l e = let g : 4 * n ≤ (4 * k + 1) * 0 = rw e at l in omega arith
+
+      go : (s : Bool) → p .sign ≡ s → FromMinusQuarter (distance ⊗ whole k ⊘ w)
+      go false e = let a = quotient w h W in from-units (distance ⊗ whole k ⊘ w) (p .sign) (a .digits * 2 ^ a .exponent) (a .is) (λ t. false-not-true (sym e ∙ t))
+      go true e =
+          let n = product-bound distance (whole k) (p .sign) (p .digits) (p .exponent) k (p .few) (le-trans (p .low) (p .small)) few (p .is-part) (whole-value k (le-trans few (lit≤ tt))) in
+          let a = quotient-bound (distance ⊗ whole k) w (p .sign) (n .0) (p .width) 0 W (none (n .0) (p .digits * 2 ^ p .exponent) (n .2) (p .zero-only e)) (lit≤ tt) (n .1) h in
+          from-units (distance ⊗ whole k ⊘ w) (p .sign) (a .digits * 2 ^ a .exponent) (a .is) (λ t. a .low)
+
 -- ---- a width above 0
 above-zero : (w : Float) (s : Bool) (n : ℕ) → IsUnits w s n → le w (bits 0) ≡ false → IsUnits w false n × (0 < n)
 unfolding le ofBits
@@ -91,6 +107,15 @@ dots-fit distance width dots p wide some few =
     let w = above-zero width (p .all-sign) (p .width) (p .is-all) wide in
     let a = quotient p (dots - 1) (omega arith) width (w .0) (w .1) in
     rw (whole-less-one dots some few) (round-cut (distance ⊗ whole (dots - 1) ⊘ width) (p .sign) (a .digits * 2 ^ a .exponent) (dots - 1) (a .is) (a .low) (omega arith))
+
+-- the quotient itself
+abbrev pub quotientOf : Float → ℕ → Float → Float
+quotientOf distance dots width = distance ⊗ (whole dots ⊖ 1·0) ⊘ width
+
+dots-from : (distance width : Float) (dots : ℕ) → Part distance width → le width (bits 0) ≡ false → 1 ≤ dots → dots ≤ 400 → FromMinusQuarter (quotientOf distance dots width)
+dots-from distance width dots p wide some few =
+    let w = above-zero width (p .all-sign) (p .width) (p .is-all) wide in
+    rw (whole-less-one dots some few) (quotient-from p (dots - 1) (omega arith) width (w .0) (w .1))
 
 -- ---- a point between bounds of the domain is finite, or a NaN
 nan-or-finite : (low v high : Float) → inDomain low ≡ true → inDomain high ≡ true → lt v low ≡ false → lt high v ≡ false → (v ≡ nan) ⊎ Finite v
@@ -269,24 +294,58 @@ module _ (low v high : Float) (cells : ℕ) (dl : inDomain low ≡ true) (dh : i
   unfolding truncatedOf
   falling-inside = let h = cells-fit (high ⊖ v) (high ⊖ low) (cells - 1) (between .from-high) (omega arith) in omega arith
 
+  module _ (wide : le (high ⊖ low) (bits 0) ≡ false) where
+    rising-from : FromMinusQuarter (quotientOf (v ⊖ low) cells (high ⊖ low))
+    rising-from = dots-from (v ⊖ low) (high ⊖ low) cells (between .from-low) wide some few
+
+    falling-from : FromMinusQuarter (quotientOf (high ⊖ v) cells (high ⊖ low))
+    falling-from = dots-from (high ⊖ v) (high ⊖ low) cells (between .from-high) wide some few
+
+-- a point inside the bounds
+pub record Inside (b : Bounds) (x y : Float) : Type 0 where
+  pub left : le (b .left) x ≡ true
+  pub right : le x (b .right) ≡ true
+  pub bottom : le (b .bottom) y ≡ true
+  pub top : le y (b .top) ≡ true
+
+pub inside : (b : Bounds) (x y : Float) → insideBounds b x y ≡ true → Inside b x y
+unfolding insideBounds
+inside b x y h =
+    let sides = le (b .left) x && le x (b .right) in
+    let but-bottom = and-true-left (sides && le y (b .top)) (le (b .bottom) y) h in
+    let s = and-true-left sides (le y (b .top)) but-bottom in
+    record {
+      left = and-true-left (le (b .left) x) (le x (b .right)) s;
+      right = and-true-right (le (b .left) x) (le x (b .right)) s;
+      bottom = and-true-right (sides && le y (b .top)) (le (b .bottom) y) h;
+      top = and-true-right sides (le y (b .top)) but-bottom;
+    }
+
+module _ (b : Bounds) (x y : Float) (dots : ℕ) (d : InDomain b) (i : Inside b x y) (wide : flatBounds b ≡ false) (some : 1 ≤ dots) (few : dots ≤ 400) where
+  pub column-from : FromMinusQuarter (quotientOf (x ⊖ b .left) dots (b .right ⊖ b .left))
+  unfolding flatBounds
+  column-from = rising-from (b .left) x (b .right) dots (d .left) (d .right) (i .left) (i .right) some few (or-false-left (le (b .right ⊖ b .left) (bits 0)) (le (b .top ⊖ b .bottom) (bits 0)) wide)
+
+  pub row-from : FromMinusQuarter (quotientOf (b .top ⊖ y) dots (b .top ⊖ b .bottom))
+  unfolding flatBounds
+  row-from = falling-from (b .bottom) y (b .top) dots (d .bottom) (d .top) (i .bottom) (i .top) some few (or-false-right (le (b .right ⊖ b .left) (bits 0)) (le (b .top ⊖ b .bottom) (bits 0)) wide)
+
 abbrev InArea : ℕ → ℕ → Found → Type 0
 InArea columns rows (At c r) = (c < columns) × (r < rows)
 InArea columns rows Nowhere = Unit {0}
 
 module _ (b : Bounds) (columns rows : ℕ) (d : InDomain b) (some-columns : 1 ≤ columns) (few-columns : columns ≤ maxColumns) (some-rows : 1 ≤ rows) (few-rows : rows ≤ maxRows) where
   place-inside : (x y : Float) → InArea columns rows (labelPlace b columns rows x y)
-  unfolding labelPlace insideBounds
+  unfolding labelPlace
   place-inside x y = go (insideBounds b x y) refl
     where
       go : (t : Bool) → insideBounds b x y ≡ t
           → InArea columns rows (cond t (At (truncatedOf (x ⊖ b .left) columns (b .right ⊖ b .left)) (truncatedOf (b .top ⊖ y) rows (b .top ⊖ b .bottom))) Nowhere)
       go false h = tt
       go true h =
-          let sides = le (b .left) x && le x (b .right) in
-          let but-bottom = and-true-left (sides && le y (b .top)) (le (b .bottom) y) h in
-          let s = and-true-left sides (le y (b .top)) but-bottom in (
-            rising-inside (b .left) x (b .right) columns (d .left) (d .right) (and-true-left (le (b .left) x) (le x (b .right)) s) (and-true-right (le (b .left) x) (le x (b .right)) s) some-columns (le-trans few-columns (lit≤ tt)),
-            falling-inside (b .bottom) y (b .top) rows (d .bottom) (d .top) (and-true-right (sides && le y (b .top)) (le (b .bottom) y) h) (and-true-right sides (le y (b .top)) but-bottom) some-rows (le-trans few-rows (lit≤ tt)),
+          let i = inside b x y h in (
+            rising-inside (b .left) x (b .right) columns (d .left) (d .right) (i .left) (i .right) some-columns (le-trans few-columns (lit≤ tt)),
+            falling-inside (b .bottom) y (b .top) rows (d .bottom) (d .top) (i .bottom) (i .top) some-rows (le-trans few-rows (lit≤ tt)),
           )
 
   pub label-inside : (x y : Float) (c r : ℕ) → labelPlace b columns rows x y ≡ At c r → (c < columns) × (r < rows)

@@ -1,12 +1,14 @@
 -- Document 01, 'From bounds to a dot', and a label's place ('Layers, labels, render').
 use Prim.Native.Nat.{ℕ, _-_, min}
-use mathlib.Core.Bool.{Bool, cond, _&&_, _||_}
+use mathlib.Core.Bool.{Bool, cond, not, _&&_, _||_}
 use lib.IntN.{pos}
+use lib.Dec.{leb}
 use lib.Ieee.{Float, binary64, lt, le, ofInt}
 use Rattle.floats.specs.Arithmetic.{_⊖_, _⊗_, _⊘_, bits}
 use Rattle.floats.specs.Truncation.{asUnsigned}
 use Rattle.floats.specs.Methods.{absOf}
 use Rattle.floats.specs.Polyfills.{roundOf, 1·0}
+use Rattle.floats.specs.Domain.{inDomain}
 use Rattle.walk.specs.declared.clip.Bounds.{Bounds}
 use Rattle.grids.specs.Markers.{resolutionOf}
 use Rattle.view.specs.declared.point.View.{View}
@@ -70,3 +72,9 @@ labelPlace b columns rows x y =
 -- the view of a canvas: its bounds, and its resolution in dots
 abbrev pub viewOf : Bounds → ℕ → ℕ → ℕ → View
 viewOf bounds columns rows marker = record { bounds = bounds; width = resolutionOf marker columns rows .columns; height = resolutionOf marker columns rows .rows }
+
+-- a view on which the clamp to resolution - 1 never acts: bounds in the domain that have a width and a height, and 1 to 400 dots each way
+unfoldable pub regularView : View → Bool
+regularView v =
+    ((inDomain (v .bounds .left) && inDomain (v .bounds .right)) && (inDomain (v .bounds .bottom) && inDomain (v .bounds .top)))
+    && (not (flatBounds (v .bounds)) && ((leb 1 (v .width) && leb (v .width) 400) && (leb 1 (v .height) && leb (v .height) 400)))

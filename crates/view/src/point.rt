@@ -1,16 +1,19 @@
 // From bounds to a dot (Painter::get_point) and to a label's first cell (Canvas::render).
 use floats::casts::as_u16;
+use floats::domain::in_domain;
 use floats::methods::abs;
 use grids::markers::resolution;
+use walk::bresenham::Dot;
 use walk::clip::Bounds;
 ghost use mathlib.Core.Path.{_≡_};
-ghost use mathlib.Core.Bool.{true, false};
-ghost use Prim.Native.Nat.{_-_, _≤_};
+ghost use mathlib.Core.Bool.{true, false, not};
+ghost use Prim.Native.Nat.{_-_, _≤_, _<_};
 ghost use lib.IntN.{pos};
 ghost use lib.Dec.{T};
-ghost use lib.Ieee.{fin, le, lt, toUnsigned};
+ghost use lib.Ieee.{fin, isNan, le, lt, toUnsigned};
+ghost use Rattle.floats.specs.Polyfills.{0·25};
 ghost use Rattle.view.specs.Limits.{maxColumns, maxRows};
-ghost use Rattle.view.specs.Point.{outsideBounds, flatBounds, pointOf, truncatedOf, insideBounds, labelPlace, viewOf, frameOf, scaledBy, spotOf};
+ghost use Rattle.view.specs.Point.{outsideBounds, flatBounds, pointOf, truncatedOf, insideBounds, labelPlace, viewOf, regularView, frameOf, scaledBy, spotOf};
 
 // Bounds with a grid's resolution in dots.
 pub struct View {
@@ -47,6 +50,19 @@ fn is_flat(b: Bounds) -> bool
     ensures { λ r. ⌜ r ≡ flatBounds b ⌝ }
 {
     (b.right - b.left <= 0.0) | (b.top - b.bottom <= 0.0)
+}
+
+// Whether the clamp to resolution - 1 never acts on a view, as `dot_inside` asks.
+pub fn is_regular(v: View) -> bool
+    ensures { λ r. ⌜ r ≡ regularView v ⌝ }
+{
+    let b = v.bounds;
+    let across = in_domain(b.left) & in_domain(b.right);
+    let down = in_domain(b.bottom) & in_domain(b.top);
+    let flat = is_flat(b);
+    let columns = (v.width >= 1) & (v.width <= 400);
+    let rows = (v.height >= 1) & (v.height <= 400);
+    (across & down) & (!flat & (columns & rows))
 }
 
 fn less_one(n: u16) -> u16
@@ -134,16 +150,6 @@ pub fn spot(f: Frame, x: f64, y: f64) -> Found
     spot_inside(f, x, y)
 }
 
-// The same of a point that may be known to be inside.
-pub fn spot_known(f: Frame, inside: bool, x: f64, y: f64) -> Found
-    ensures { λ r. ⌜ ((inside ≡ true → outsideBounds (f .view .bounds) x y ≡ false) → r ≡ spotOf f x y) ⌝ }
-{
-    if inside {
-        return spot_inside(f, x, y);
-    }
-    spot(f, x, y)
-}
-
 // The same of a point by itself.
 pub fn point(v: View, x: f64, y: f64) -> Found
     ensures { λ r. ⌜ r ≡ pointOf v x y ⌝ }
@@ -152,7 +158,38 @@ pub fn point(v: View, x: f64, y: f64) -> Found
     spot(frame, x, y)
 }
 
-fn is_inside(b: Bounds, x: f64, y: f64) -> bool
+// The whole part of a float from 0.25 on that is below 2^16, of which neither end is tested: below 1 the
+// shift is by 53 or 54, which leaves 0. Other floats give some number.
+fn whole_inside(x: f64) -> u16
+    requires { ⌜ T (not (isNan x)) ⌝ }
+    ensures { λ r. ⌜ (lt x 0·25 ≡ false → toUnsigned 64 x < 65536 → r ≡ toUnsigned 64 x) ⌝ }
+{
+    let bits = f64::to_bits(x);
+    let exponent = bits >> 52;
+    let digits = (bits & 0xf_ffff_ffff_ffff) | 0x10_0000_0000_0000;
+    let n = digits >> (std::num::wrapping_sub_u64(1075, exponent) % 64);
+    (n % 65536) as u16
+}
+
+// The dot of a point inside the bounds of a regular view, by its frame. Nothing is tested but that the
+// sums are no NaN, whose bits may not be read: one comparison for both, which inside the bounds holds.
+pub fn dot_inside(f: Frame, x: f64, y: f64) -> Dot
+    ensures { λ r. ⌜ ((v : View) → f ≡ frameOf v → regularView v ≡ true → insideBounds (v .bounds) x y ≡ true → pointOf v x y ≡ Found.At (r .column) (r .row)) ⌝ }
+{
+    let v = f.view;
+    let b = v.bounds;
+    let across = (x - b.left) * f.across / f.width + 0.5;
+    let down = (b.top - y) * f.down / f.height + 0.5;
+    if (across == across) & (down == down) {
+        let column = whole_inside(across) as u32;
+        let row = whole_inside(down) as u32;
+        return Dot { column, row };
+    }
+    Dot { column: 0, row: 0 }
+}
+
+// Whether a point is inside the inclusive bounds, which one with a NaN is not.
+pub fn is_inside(b: Bounds, x: f64, y: f64) -> bool
     ensures { λ r. ⌜ r ≡ insideBounds b x y ⌝ }
 {
     (x >= b.left) & (x <= b.right) & (y <= b.top) & (y >= b.bottom)

@@ -1,6 +1,6 @@
--- The course from `new` gives the dots of the closed formula: each direction is its start and k moves, modulo 2 ^ 64.
-use Prim.Native.Nat.{ℕ, zero, suc, _+_, _-_, _*_, _%_, _^_, _≤_, _<_, max}
-use mathlib.Core.Path.{_≡_, sym, ap, _∙_, subst}
+-- The course from `new` gives the dots of the closed formula: each direction is its start and k moves, modulo 2 ^ 64. One of the two goes a whole dot a move.
+use Prim.Native.Nat.{ℕ, zero, suc, _+_, _-_, _*_, _/_, _%_, _^_, _≤_, _<_, max}
+use mathlib.Core.Path.{_≡_, refl, sym, ap, _∙_, subst}
 use mathlib.Core.Bool.{Bool, true, false, cond}
 use native.Mathlib.Omega.{arith}
 use native.Mathlib.Nat.{mod-add-mod}
@@ -10,20 +10,20 @@ use borrow.Author.Tests.{ltb-true, ltb-false, le-ltb}
 use Rattle.walk.specs.declared.bresenham.Ends.{Ends}
 use Rattle.walk.specs.declared.bresenham.Dot.{Dot}
 use Rattle.walk.specs.declared.course.Course.{Course}
-use Rattle.walk.specs.Line.{apart, dx, dy, startsSecond, exchanged, fromStart, offsetAfter, toward, dotAfter, dotCount, lineDots}
+use Rattle.walk.specs.Line.{apart, dx, dy, shallow, startsSecond, exchanged, fromStart, offsetAfter, toward, dotAfter, dotCount, lineDots}
 use Rattle.walk.specs.Walk.{Fits16}
 use Rattle.walk.specs.Course.{placeOf, moveOf, courseFrom, courseOf, courseDot, nextCourse, courseAfter, courseDots, CoursesLine}
 use Rattle.walk.proofs.Offset.{offset-whole}
 use Rattle.walk.proofs.Tabulated.{tabulate-same}
 use Rattle.walk.proofs.ClosedFormula.{same-length}
 use Rattle.walk.proofs.LineDots.{Forward, forward, Within, dot-within, by-direction, larger-left, larger-right}
-use Rattle.walk.proofs.FixedPoint.{toward-fixed}
+use Rattle.walk.proofs.FixedPoint.{toward-fixed, move-one, one-move}
 
 -- ---- k steps of a course
-moved-next : (place move k : ℕ) → ((place + k * move) % 2 ^ 64 + move) % 2 ^ 64 ≡ (place + suc k * move) % 2 ^ 64
+pub moved-next : (place move k : ℕ) → ((place + k * move) % 2 ^ 64 + move) % 2 ^ 64 ≡ (place + suc k * move) % 2 ^ 64
 moved-next place move k = mod-add-mod (place + k * move) (2 ^ 64) move ∙ ap (λ (n : ℕ). n % 2 ^ 64) (omega arith)
 
-after-is : (c : Course) → c .column < 2 ^ 64 → c .row < 2 ^ 64 → (k : ℕ)
+pub after-is : (c : Course) → c .column < 2 ^ 64 → c .row < 2 ^ 64 → (k : ℕ)
     → courseAfter k c ≡ record { count = c .count; column = (c .column + k * c .right) % 2 ^ 64; row = (c .row + k * c .down) % 2 ^ 64; right = c .right; down = c .down }
 after-is c f g zero =
     let a : (c .column + 0 * c .right) % 2 ^ 64 ≡ c .column = omega arith in
@@ -39,6 +39,14 @@ place-fits a b h = go (ltb b a)
     go true = omega arith
     go false = omega arith
 
+place-whole : (a b : ℕ) → placeOf a b / 2 ^ 48 ≡ a
+unfolding placeOf
+place-whole a b = go (ltb b a)
+  where
+    go : (t : Bool) → (a * 2 ^ 48 + cond t (2 ^ 47 + 2 ^ 30) (2 ^ 47 - 2 ^ 30)) / 2 ^ 48 ≡ a
+    go true = omega arith
+    go false = omega arith
+
 first-le : (a b : ℕ) → a ≤ max a b
 first-le a b = omega arith
 
@@ -47,6 +55,12 @@ second-le a b = omega arith
 
 below : (k n : ℕ) → k < n + 1 → k ≤ n
 below k n h = omega arith
+
+-- after k steps the column, where its move is a whole dot, or else the row, is k dots on
+abbrev pub WholeAt : Course → ℕ → Type 0
+WholeAt c k =
+    (c .right ≡ 2 ^ 48 → courseDot (courseAfter k c) .column ≡ c .column / 2 ^ 48 + k)
+    × ((c .right ≡ 2 ^ 48 → ⊥) → courseDot (courseAfter k c) .row ≡ c .row / 2 ^ 48 + k)
 
 -- ---- a line whose first end is its start
 module _ (e : Ends) (f : Fits16 e) (w : Forward e) (k : ℕ) (on : k ≤ max (dx e) (dy e)) where
@@ -87,6 +101,25 @@ module _ (e : Ends) (f : Fits16 e) (w : Forward e) (k : ℕ) (on : k ≤ max (dx
       let l = larger-right (dx e) (dy e) (ltb-false (dy e) (dx e) t) in
       rw (l, whole (e .y1) (e .y2) (w .upright t) (subst (λ (n : ℕ). k ≤ n) l on)))
 
+  -- the way of whole moves: the column where it has them, else the row
+  whole-steps : WholeAt (courseFrom e) k
+  whole-steps = (column-whole, row-whole)
+    where
+      one-way : (a b : ℕ) → apart a b ≤ long → moveOf long a b ≡ 2 ^ 48 → toward a b (offsetAfter long (apart a b) k) ≡ placeOf a b / 2 ^ 48 + k
+      one-way a b h m =
+          let g = move-one long a b long-fits h m in
+          rw (place-whole a b, sym (g .1)) (whole a b (g .0) (subst (λ (n : ℕ). k ≤ n) (sym (g .1)) on))
+
+      column-whole : courseFrom e .right ≡ 2 ^ 48 → courseDot (courseAfter k (courseFrom e)) .column ≡ courseFrom e .column / 2 ^ 48 + k
+      column-whole m = ap (λ (d : Dot). d .column) dot-fixed ∙ one-way (e .x1) (e .x2) (first-le (dx e) (dy e)) m
+
+      row-moves : (t : Bool) → shallow e ≡ t → (courseFrom e .right ≡ 2 ^ 48 → ⊥) → courseFrom e .down ≡ 2 ^ 48
+      row-moves true t m = absurd (m (one-move long (e .x1) (e .x2) (w .level t) (sym (larger-left (dx e) (dy e) (ltb-true (dy e) (dx e) t)))))
+      row-moves false t m = one-move long (e .y1) (e .y2) (w .upright t) (sym (larger-right (dx e) (dy e) (ltb-false (dy e) (dx e) t)))
+
+      row-whole : (courseFrom e .right ≡ 2 ^ 48 → ⊥) → courseDot (courseAfter k (courseFrom e)) .row ≡ courseFrom e .row / 2 ^ 48 + k
+      row-whole m = ap (λ (d : Dot). d .row) dot-fixed ∙ one-way (e .y1) (e .y2) (second-le (dx e) (dy e)) (row-moves (shallow e) refl m)
+
 -- ---- a line either way round
 fits-start : (e : Ends) → Fits16 e → Fits16 (fromStart e)
 unfolding fromStart
@@ -104,6 +137,13 @@ course-dot e f k on =
     let h : k ≤ max (dx s) (dy s) = subst (λ (n : ℕ). k ≤ n) (sym (same-length e)) on in
     dot-fixed s (fits-start e f) (forward e) k h ∙ both-after s (fits-start e f) (forward e) k h
 
+-- and the way that it goes by whole dots
+moves-whole : (e : Ends) → Fits16 e → (k : ℕ) → k ≤ max (dx e) (dy e) → WholeAt (courseOf e) k
+unfolding courseOf
+moves-whole e f k on =
+    let s = fromStart e in
+    whole-steps s (fits-start e f) (forward e) k (subst (λ (n : ℕ). k ≤ n) (sym (same-length e)) on)
+
 pub course-count : (e : Ends) → courseOf e .count ≡ dotCount e
 unfolding courseOf
 course-count e = rw (same-length e)
@@ -116,7 +156,7 @@ courses-line e f = (
       ∙ tabulate-same (dotCount e) (λ k. courseDot (courseAfter k (courseOf e))) (dotAfter (fromStart e)) (λ k h. course-dot e f k (below k (max (dx e) (dy e)) h)),
 )
 
--- ---- for a loop over a course: one step more, a dot on the way, and the whole line
+-- ---- for a loop over a course: one step more, a dot on the way, the way of whole dots, and the whole line
 pub next-course : (c₀ c after : Course) (k : ℕ) → c ≡ courseAfter k c₀ → after ≡ nextCourse c → after ≡ courseAfter (k + 1) c₀
 next-course c₀ c after k e s = rw (add-one, s, e)
 
@@ -124,6 +164,9 @@ pub course-within : (e : Ends) → Fits16 e → (c₀ : Course) (k : ℕ) → c�
 course-within e f c₀ k w h =
     let on = below k (max (dx e) (dy e)) (rw (w, course-count e) at h) in
     rw (w, course-dot e f k on) (dot-within e k on)
+
+pub course-whole : (e : Ends) → Fits16 e → (c₀ : Course) (k : ℕ) → c₀ ≡ courseOf e → k < c₀ .count → WholeAt c₀ k
+course-whole e f c₀ k w h = rw w (moves-whole e f k (below k (max (dx e) (dy e)) (rw (w, course-count e) at h)))
 
 pub course-over : (e : Ends) → Fits16 e → (c₀ : Course) (n k : ℕ) → c₀ ≡ courseOf e → n ≡ c₀ .count → k ≡ n → courseDots c₀ k ≡ lineDots e
 course-over e f c₀ n k w c h = rw (h, c, w) (courses-line e f .1)

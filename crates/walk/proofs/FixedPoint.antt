@@ -1,12 +1,12 @@
 -- Offsets by fixed point: a start just before the middle of a dot and k slopes lie in the dot of the closed formula.
 use Prim.Native.Nat.{ℕ, _+_, _-_, _*_, _/_, _%_, _^_, _≤_, _<_}
-use mathlib.Core.Path.{_≡_, refl}
+use mathlib.Core.Path.{_≡_, refl, sym}
 use mathlib.Core.Bool.{Bool, true, false, cond}
 use mathlib.Core.Logic.{_⊎_, inl, inr}
 use native.Mathlib.Omega.{arith}
 use native.Mathlib.Nat.{zero-mul, mul-add, mul-le-mul-left, mul-le-mul-right, div-mul-le-self, div-le-of-le-mul, lt-div-mul-add, div-eq-of-lt-le}
 use lib.Dec.{ltb}
-use borrow.Author.Tests.{ltb-true, ltb-false}
+use borrow.Author.Tests.{ltb-true, ltb-false, le-ltb}
 use Rattle.floats.proofs.Cases.{lt-or-le}
 use Rattle.walk.specs.Line.{apart, offsetAfter, toward}
 use Rattle.walk.specs.Course.{slopeOf, placeOf, moveOf}
@@ -144,3 +144,21 @@ toward-fixed long a b k fits f g low on = go (ltb b a) refl
       where
         below : (o : ℕ) → o ≤ apart a b → a ≤ b → a + o < 2 ^ 16
         below o h l = omega arith
+
+-- ---- a move of a whole dot: only that of the longer way, upwards in number
+pub move-one : (long a b : ℕ) → long < 2 ^ 16 → apart a b ≤ long → moveOf long a b ≡ 2 ^ 48 → (a ≤ b) × (apart a b ≡ long)
+unfolding moveOf
+move-one long a b fits low = go (ltb b a) refl
+  where
+    bound : (slope : ℕ) → slope ≡ slopeOf long (apart a b) → long * slope ≤ apart a b * 2 ^ 48 + long
+    bound slope s = rw s (slope-below long (apart a b) low)
+
+    go : (t : Bool) → ltb b a ≡ t → cond t (2 ^ 64 - slopeOf long (apart a b)) (slopeOf long (apart a b)) ≡ 2 ^ 48 → (a ≤ b) × (apart a b ≡ long)
+    go true t m =
+        let s : 2 ^ 64 - 2 ^ 48 ≡ slopeOf long (apart a b) = omega arith in
+        absurd (omega (arith, ltb-true b a t, bound (2 ^ 64 - 2 ^ 48) s))
+    go false t m = let h = bound (2 ^ 48) (sym m) in (ltb-false b a t, omega (arith, h))
+
+pub one-move : (long a b : ℕ) → a ≤ b → apart a b ≡ long → moveOf long a b ≡ 2 ^ 48
+unfolding moveOf slopeOf
+one-move long a b h e = rw (le-ltb b a h, e, le-ltb long long (omega arith))

@@ -11,7 +11,7 @@ ghost use Rattle.walk.specs.Line.{dx, dy};
 ghost use Rattle.walk.specs.Course.{slopeOf, placeOf, moveOf, courseOf, courseDot, nextCourse};
 
 // One dot: 2^48.
-const ONE: u64 = 281474976710656;
+pub const ONE: u64 = 281474976710656;
 
 // Short of the middle of a dot by 2^30, for 'a tie staying nearer the start': 2^47 - 2^30.
 const BEFORE_MIDDLE: u64 = 140736414613504;

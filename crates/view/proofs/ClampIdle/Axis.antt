@@ -20,7 +20,7 @@ use Rattle.floats.proofs.Monotone.{le-not-above}
 use Rattle.view.proofs.ClampIdle.Bounded.{one, AtMost, at-most}
 use Rattle.view.proofs.ClampIdle.Places.{Stands, value-stands, places-ordered, Difference, difference}
 
--- a float that is part of another, both in units; the part is a candidate of `Nearest`
+-- a float that is part of another, both in units; the part is a candidate of `Nearest`, and negative only at 0
 pub record Part (part all : Float) : Type 0 where
   pub sign : Bool
   pub digits : ℕ
@@ -32,9 +32,10 @@ pub record Part (part all : Float) : Type 0 where
   pub is-all : IsUnits all all-sign width
   pub low : digits * 2 ^ exponent ≤ width
   pub small : width ≤ 2 ^ 1116
+  pub zero-only : sign ≡ true → digits * 2 ^ exponent ≡ 0
 
-part-of : {x y : Float} {s t : Bool} {b : ℕ} → (d : AtMost x s b) → (w : AtMost y t (1 * 2 ^ 1115)) → d .digits * 2 ^ d .exponent ≤ w .digits * 2 ^ w .exponent → Part x y
-part-of {x} {y} {s} {t} d w h = record {
+part-of : {x y : Float} {s t : Bool} {b : ℕ} → (d : AtMost x s b) → (w : AtMost y t (1 * 2 ^ 1115)) → d .digits * 2 ^ d .exponent ≤ w .digits * 2 ^ w .exponent → (s ≡ true → d .digits * 2 ^ d .exponent ≡ 0) → Part x y
+part-of {x} {y} {s} {t} d w h z = record {
   sign = s;
   digits = d .digits;
   exponent = d .exponent;
@@ -45,6 +46,7 @@ part-of {x} {y} {s} {t} d w h = record {
   is-all = w .is;
   low = h;
   small = le-trans (w .low) (lit≤ tt);
+  zero-only = z;
 }
 
 -- ---- a difference in units
@@ -67,8 +69,8 @@ module _ (c : ℕ) (C : 0 < c) where
   rounded-zero s n h = at-most (round binary64 s n c) s n c 0 0 (round-correct s n c C) C (lit< tt) (lit< tt) (rw h (le-of-eq (zero-mul one ∙ sym (zero-mul c))))
 
   rounded-part : (s t : Bool) (n m : ℕ) → (s ≡ true → n ≡ 0) → (t ≡ true → m ≡ 0) → n ≤ m → m ≤ 2 ^ 41 * c → Part (round binary64 s n c) (round binary64 t m c)
-  rounded-part true t n m f g h l = let d = rounded-zero true n (f refl) in part-of d (rounded-small t m l) (le-trans (d .low) zero-le)
-  rounded-part false true n m f g h l = let d = rounded-zero false n (none n m h (g refl)) in part-of d (rounded-small true m l) (le-trans (d .low) zero-le)
+  rounded-part true t n m f g h l = let d = rounded-zero true n (f refl) in part-of d (rounded-small t m l) (le-trans (d .low) zero-le) (λ z. none _ 0 (d .low) refl)
+  rounded-part false true n m f g h l = let d = rounded-zero false n (none n m h (g refl)) in part-of d (rounded-small true m l) (le-trans (d .low) zero-le) (λ z. false-not-true z)
   rounded-part false false n m f g h l =
       let d = rounded-small false n (le-trans h l) in
       let w = rounded-small false m l in
@@ -76,6 +78,7 @@ module _ (c : ℕ) (C : 0 < c) where
       (places-ordered (round binary64 false m c) (round binary64 false n c) one 0 (w .digits * 2 ^ w .exponent) (d .digits * 2 ^ d .exponent) (pow-pos 1074)
       (units-stand (round binary64 false m c) (w .digits * 2 ^ w .exponent) (w .is)) (units-stand (round binary64 false n c) (d .digits * 2 ^ d .exponent) (d .is))
       (le-not-above (round binary64 false n c) (round binary64 false m c) (is-true _ (round-mono binary64 n c m c C C (mul-le-mul-right c h)))))
+      (λ z. false-not-true z)
 
   part : {x l y k : Float} {n m : ℕ} → Difference x l c n → Difference y k c m → n ≤ m → m ≤ 2 ^ 41 * c → Part (x ⊖ l) (y ⊖ k)
   part {n = n} {m = m} d w h l = rw (d .is, w .is) (rounded-part (d .sign) (w .sign) n m (d .zero-only) (w .zero-only) h l)

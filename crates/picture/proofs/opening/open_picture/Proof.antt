@@ -1,14 +1,13 @@
 -- The tests in the order of the definition, then the opening's call.
 use native.Mathlib.Omega.{arith}
-use mathlib.Core.Path.{_≡_, refl, sym, _∙_, ap}
-use Prim.Native.Nat.{_≤_}
+use mathlib.Core.Path.{_≡_, sym, _∙_, ap}
 use lib.ListN.{length}
 use Rattle.ledger.specs.Calls.{Opening}
 use Rattle.ledger.specs.Model.{openCells}
 use Rattle.ledger.specs.Contracts.{openCalled}
 use borrow.Rule.Slice.PartAt.{part-to-end}
-use Rattle.picture.specs.Fields.{sizeBy}
-use Rattle.picture.specs.Records.{openingMap, openingWidths, openingOf, openingEnd}
+use Rattle.form.specs.Fields.{sizeBy}
+use Rattle.form.specs.Forms.{openingMap, openingWidths, openingEnd}
 use Rattle.picture.specs.declared.opening.Fields.{Fields}
 use Rattle.picture.proofs.Openings.{Headed, too-long, ended-early, extra-bit, cut-short, too-large, none, opening-refused, opening-called, size-test, opening-made}
 use borrow.Author.Needs.{needs}

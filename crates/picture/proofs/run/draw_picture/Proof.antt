@@ -1,5 +1,5 @@
 -- Refused at the opening or at a record, or rendered.
-use mathlib.Core.Path.{_≡_, refl, sym, _∙_, ap}
+use mathlib.Core.Path.{sym, _∙_, ap}
 use Rattle.picture.specs.declared.run.Ran.{Ran}
 use Rattle.picture.proofs.Whole.{gives-stopped, gives-rendered, opening-stopped, opening-ran}
 use borrow.Author.Needs.{needs}

@@ -1,8 +1,8 @@
 -- What is left of the run at each record is the run from the start.
-use Rattle.picture.specs.Run.{ranBy, Ended, recordsFrom}
-use Rattle.picture.proofs.Steps.{went-on, stopped, run-end}
+use Rattle.picture.specs.Run.{recordsFrom}
+use Rattle.picture.proofs.RunSteps.{went-on, stopped, run-end}
 use native.Mathlib.Omega.{arith}
-use mathlib.Core.Path.{_≡_, refl, sym, _∙_, ap}
+use mathlib.Core.Path.{_≡_, refl, sym, _∙_}
 use Prim.Native.Nat.{_-_}
 use lib.ListN.{length}
 use Rattle.ledger.specs.Contracts.{given}

@@ -1,12 +1,9 @@
--- After k turns the course has made k steps, and its first k dots are painted: the cell of each is held, so that setting its bit and ink paints it.
-use Prim.Native.Nat.{ℕ, _-_, _*_, _%_, _^_, _≤_, _<_}
+-- After k turns the course has made k steps, and its first k dots are painted: the cell of each is held.
+use Prim.Native.Nat.{_-_, _≤_}
 use mathlib.Core.Path.{_≡_, refl}
-use native.Mathlib.Nat.{one-mul, mod-eq-of-lt}
 use native.Mathlib.Omega.{arith}
-use lib.Pow.{pow-lt}
 use borrow.Author.Needs.{needs}
-use Rattle.grids.specs.Painting.{cellsHeld}
-use Rattle.shapes.proofs.CourseLoops.{Along, along-next, along-over, brailleCell, still-held, in-store, braille-set}
+use Rattle.shapes.proofs.CourseLoops.{Along, along-next, along-over, brailleCell, still-held}
 use Rattle.shapes.proofs.painters.held_braille.Statement.{statement}
 use Rattle.shapes.proofs.painters.held_braille.Tie as tie
 
@@ -16,42 +13,21 @@ Inv-loop cells₀ p n w₀ k₀ cells w k = (k ≤ n) × Along p cells₀ w₀ k
 abbrev μ-loop : tie.MeasureT-loop
 μ-loop cells₀ p n w₀ k₀ cells w k = n - k
 
-shifted : (n : ℕ) → n < 8 → 1 * 2 ^ n % 2 ^ 32 ≡ 2 ^ n
-shifted n h = rw (one-mul (2 ^ n)) (mod-eq-of-lt (pow-lt {j = 32} (omega arith)))
-
-cell-held : (c : tie.After-flat-index Inv-loop μ-loop) → let h = c .before .before .before .before .before in let a = h .before .before .args in c .flat-index .result < cellsHeld (h .loop .cells) (a .p .columns) (a .p .rows)
-cell-held c =
-    let d = c .before .before .before in
-    let h = d .before .before in
-    let s = h .before .before in
-    let a = s .args in
-    still-held (a .p) (brailleCell (a .p .columns)) (a .cells .now) (h .loop .cells) (a .c) (h .loop .w) (h .loop .k) _ (d .dot .result) (s .pre .1) (d .before .loop-test .taken) (h .loop .inv .1) (d .dot .ensures)
-    (c .flat-index .ensures)
-
 loop-holds : tie.Need-loop-holds Inv-loop μ-loop
 loop-holds c = (omega arith, (refl, refl, (refl, refl)))
 
 dot-requires : tie.Need-dot-requires Inv-loop μ-loop
 dot-requires c κs = search needs
 
-flat-index-requires : tie.Need-flat-index-requires Inv-loop μ-loop
-flat-index-requires c κs = search needs
-
-mul-place : tie.Need-mul-place Inv-loop μ-loop
-mul-place c = search needs
-
-add-place : tie.Need-add-place Inv-loop μ-loop
-add-place c = search needs
-
-shl-set-held : tie.Need-shl-set-held Inv-loop μ-loop
-shl-set-held c = search needs
-
-set-held-requires : tie.Need-set-held-requires Inv-loop μ-loop
-set-held-requires c κs =
-    let i = c .before .before .before in
-    let h = i .before .before .before .before .before in
-    let a = h .before .before .args in
-    in-store (h .loop .cells) (a .p .columns) (a .p .rows) _ (cell-held i)
+set-braille-requires : tie.Need-set-braille-requires Inv-loop μ-loop
+set-braille-requires c κs =
+    let d = c .before in
+    let h = d .before .before in
+    let s = h .before .before in
+    let a = s .args in (
+      s .pre .0,
+      still-held (a .p) (brailleCell (a .p .columns)) (a .cells .now) (h .loop .cells) (a .c) (h .loop .w) (h .loop .k) _ (d .dot .result) (s .pre .1) (d .before .loop-test .taken) (h .loop .inv .1) (d .dot .ensures) refl,
+    )
 
 step-requires : tie.Need-step-requires Inv-loop μ-loop
 step-requires c κs = search needs
@@ -65,15 +41,11 @@ loop-less c = search needs
 loop-again : tie.Need-loop-again Inv-loop μ-loop
 loop-again c =
     let s = c .before .before .before in
-    let i = s .before .before .before .before in
-    let d = i .before .before .before .dot in
-    let h = i .before .before .before .before .before in
-    let b = h .before .before in
-    let a = b .args in (
+    let d = s .before .before in
+    let h = d .before .before in
+    let a = h .before .before .args in (
       omega arith,
-      along-next (a .p) (a .cells .now) (h .loop .cells) _ (a .c) (h .loop .w) _ (h .loop .k) (d .result) (h .loop .inv .1) (d .ensures)
-          (braille-set (a .p) (h .loop .cells) _ _ _ (d .result) (cell-held i) (s .set-held .ensures) (b .pre .0) (i .flat-index .ensures) (shifted _ (omega arith)))
-          (c .step .ensures),
+      along-next (a .p) (a .cells .now) (h .loop .cells) _ (a .c) (h .loop .w) _ (h .loop .k) (d .dot .result) (h .loop .inv .1) (d .dot .ensures) (s .set-braille .ensures) (c .step .ensures),
     )
 
 same-length : tie.Need-same-length Inv-loop μ-loop
@@ -94,11 +66,7 @@ held-braille-spec =
     μ-loop
     loop-holds
     dot-requires
-    flat-index-requires
-    mul-place
-    add-place
-    shl-set-held
-    set-held-requires
+    set-braille-requires
     step-requires
     add-k
     loop-less

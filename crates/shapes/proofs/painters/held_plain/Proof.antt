@@ -1,90 +1,81 @@
--- After k turns the course has made k steps, and its first k dots are painted: the cell of each is held, so that setting its bit and ink paints it.
-use Prim.Native.Nat.{_-_, _≤_, _<_}
-use mathlib.Core.Path.{_≡_, refl}
+-- The words that `held_words` counts are those of the dots' cells: by columns where a step goes a whole one, else by rows.
+use Prim.Native.Nat.{_*_, _/_, _^_}
 use native.Mathlib.Omega.{arith}
 use borrow.Author.Needs.{needs}
-use Rattle.grids.specs.Painting.{cellsHeld}
-use Rattle.shapes.proofs.CourseLoops.{Along, along-next, along-over, plainCell, still-held, in-store, plain-set}
+use Rattle.shapes.specs.HeldWords.{wordAfter}
+use Rattle.shapes.proofs.WordLoops.{AtDots, by-columns, by-rows, words-inside, words-over, columns-fit, rows-fit}
 use Rattle.shapes.proofs.painters.held_plain.Statement.{statement}
 use Rattle.shapes.proofs.painters.held_plain.Tie as tie
 
-abbrev Inv-loop : tie.InvT-loop
-Inv-loop cells₀ p n w₀ k₀ cells w k = (k ≤ n) × Along p cells₀ w₀ k w cells
+columns-at : (t : tie.Then1) → let a = t .before .before .before .before .args in AtDots (a .p) (a .c) (wordAfter (a .c .column / 2 ^ 48 * 5) 5 (a .p .columns * 5) (a .c .row) (a .c .down))
+columns-at t =
+    let s = t .before .before .before .before in
+    by-columns (s .args .p) (s .args .c) (omega arith) (omega arith) (s .pre .2) (t .if1 .taken)
 
-abbrev μ-loop : tie.MeasureT-loop
-μ-loop cells₀ p n w₀ k₀ cells w k = n - k
+rows-at : (t : tie.Else1) → let a = t .before .before .before .before .args in AtDots (a .p) (a .c) (wordAfter (a .c .row / 2 ^ 48 * (a .p .columns * 5)) (a .p .columns * 5) 5 (a .c .column) (a .c .right))
+rows-at t =
+    let s = t .before .before .before .before in
+    by-rows (s .args .p) (s .args .c) (omega arith) (omega arith) (s .pre .2) (t .if1 .left)
 
-cell-held : (c : tie.After-flat-index Inv-loop μ-loop) → let h = c .before .before .before in let a = h .before .before .args in c .flat-index .result < cellsHeld (h .loop .cells) (a .p .columns) (a .p .rows)
-cell-held c =
-    let d = c .before in
-    let h = d .before .before in
-    let s = h .before .before in
+cast-stride : tie.Need-cast-stride
+cast-stride c = search needs
+
+mul-stride : tie.Need-mul-stride
+mul-stride c = search needs
+
+mul-start : tie.Need-mul-start
+mul-start c = search needs
+
+held-words-requires : tie.Need-held-words-requires
+held-words-requires c κs =
+    let t = c .before .before in
+    let s = t .before .before .before .before in
     let a = s .args in
-    still-held (a .p) (plainCell (a .p .columns)) (a .cells .now) (h .loop .cells) (a .c) (h .loop .w) (h .loop .k) _ (d .dot .result) (s .pre .1) (d .before .loop-test .taken) (h .loop .inv .1) (d .dot .ensures)
-    (c .flat-index .ensures)
+    (columns-fit (a .c .column) (a .c .count) (omega arith) (omega arith), words-inside (a .p) (a .c) (a .cells .now) (s .pre .1) _ (columns-at t))
 
-loop-holds : tie.Need-loop-holds Inv-loop μ-loop
-loop-holds c = (omega arith, (refl, refl, (refl, refl)))
+mul-start-2 : tie.Need-mul-start-2
+mul-start-2 c =
+    let a = c .before .before .before .before .before .args in
+    omega (arith, rows-fit (a .c .row) (a .p .columns) 0 (omega arith) (omega arith) (omega arith))
 
-dot-requires : tie.Need-dot-requires Inv-loop μ-loop
-dot-requires c κs = search needs
+held-words-requires-2 : tie.Need-held-words-requires-2
+held-words-requires-2 c κs =
+    let t = c .before .before in
+    let s = t .before .before .before .before in
+    let a = s .args in
+    (rows-fit (a .c .row) (a .p .columns) (a .c .count) (omega arith) (omega arith) (omega arith), words-inside (a .p) (a .c) (a .cells .now) (s .pre .1) _ (rows-at t))
 
-flat-index-requires : tie.Need-flat-index-requires Inv-loop μ-loop
-flat-index-requires c κs = search needs
-
-set-held-requires : tie.Need-set-held-requires Inv-loop μ-loop
-set-held-requires c κs =
-    let i = c .before in
-    let h = i .before .before .before in
-    let a = h .before .before .args in
-    in-store (h .loop .cells) (a .p .columns) (a .p .rows) _ (cell-held i)
-
-step-requires : tie.Need-step-requires Inv-loop μ-loop
-step-requires c κs = search needs
-
-add-k : tie.Need-add-k Inv-loop μ-loop
-add-k c = search needs
-
-loop-less : tie.Need-loop-less Inv-loop μ-loop
-loop-less c = search needs
-
-loop-again : tie.Need-loop-again Inv-loop μ-loop
-loop-again c =
-    let s = c .before .before .before in
-    let i = s .before .before in
-    let d = i .before .dot in
-    let h = i .before .before .before in
-    let b = h .before .before in
-    let a = b .args in (
-      omega arith,
-      along-next (a .p) (a .cells .now) (h .loop .cells) _ (a .c) (h .loop .w) _ (h .loop .k) (d .result) (h .loop .inv .1) (d .ensures)
-          (plain-set (a .p) (h .loop .cells) _ _ _ (d .result) (cell-held i) (s .set-held .ensures) (b .pre .0) (i .flat-index .ensures) refl)
-          (c .step .ensures),
-    )
-
-same-length : tie.Need-same-length Inv-loop μ-loop
+same-length : tie.Need-same-length
 same-length c = search needs
 
-returns : tie.Need-returns Inv-loop μ-loop
+returns : tie.Need-returns
 returns c =
-    let h = c .before in
-    let a = h .before .before .args in
-    let g : h .loop .k ≡ a .c .count = omega arith in
-    along-over (a .p) (a .cells .now) (h .loop .cells) (a .c) (h .loop .w) (a .c .count) (h .loop .k) g (h .loop .inv .1)
+    let h = c .before .before in
+    let t = h .before .before .before in
+    let s = t .before .before .before .before in
+    words-over (s .args .p) (s .args .c) (s .args .cells .now) (s .pre .1) _ (columns-at t) (s .pre .0) _ (h .held-words .ensures)
+
+same-length-2 : tie.Need-same-length-2
+same-length-2 c = search needs
+
+returns-2 : tie.Need-returns-2
+returns-2 c =
+    let h = c .before .before in
+    let t = h .before .before .before in
+    let s = t .before .before .before .before in
+    words-over (s .args .p) (s .args .c) (s .args .cells .now) (s .pre .1) _ (rows-at t) (s .pre .0) _ (h .held-words2 .ensures)
 
 pub held-plain-spec : {M : Type 1} → statement M
 held-plain-spec =
     tie.close
     (tie.spec
-    Inv-loop
-    μ-loop
-    loop-holds
-    dot-requires
-    flat-index-requires
-    set-held-requires
-    step-requires
-    add-k
-    loop-less
-    loop-again
+    cast-stride
+    mul-stride
+    mul-start
+    held-words-requires
+    mul-start-2
+    held-words-requires-2
     same-length
-    returns)
+    returns
+    same-length-2
+    returns-2)

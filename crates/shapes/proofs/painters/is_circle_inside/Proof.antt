@@ -19,8 +19,9 @@ mul-add-requires-4 c κs = search needs
 returns : tie.Need-returns
 returns c =
     let m = c .before .before .before .before in
-    let a = m .before .before .before .before .args in
-    circle-inside (a .b) (a .x) (a .y) (a .radius) _ _ _ _ (m .before .before .before .mul-add .ensures) (m .before .before .mul-add2 .ensures) (m .before .mul-add3 .ensures) (m .mul-add4 .ensures)
+    let s = m .before .before .before .before in
+    let a = s .args in
+    circle-inside (a .b) (a .x) (a .y) (a .radius) _ _ _ _ (s .pre) (m .before .before .before .mul-add .ensures) (m .before .before .mul-add2 .ensures) (m .before .mul-add3 .ensures) (m .mul-add4 .ensures)
 
 pub is-circle-inside-spec : {M : Type 1} → statement M
 is-circle-inside-spec = tie.close (tie.spec mul-add-requires mul-add-requires-2 mul-add-requires-3 mul-add-requires-4 returns)

@@ -1,13 +1,41 @@
--- By the marker one of the two loops.
+-- By the marker, the view, the store and the domain one of the three loops.
+use mathlib.Core.Path.{sym, _∙_}
 use borrow.Author.Needs.{needs}
+use Rattle.grids.proofs.Cases.{both}
+use Rattle.shapes.specs.Drawing.{ReadyBraille, CircleInDomain}
 use Rattle.shapes.proofs.painters.paint_circle.Statement.{statement}
 use Rattle.shapes.proofs.painters.paint_circle.Tie as tie
 
-is-circle-inside-requires : tie.Need-is-circle-inside-requires
-is-circle-inside-requires c κs = search needs
+-- after the first test
+known : (c : tie.Then1) → let a = c .before .before .before .before .before .before .before .args in ReadyBraille (a .cells .now) (a .p) × CircleInDomain (a .x) (a .y) (a .radius)
+known c =
+    let r = c .before in
+    let d = r .before .before in
+    let t = both _ _ (c .if1 .taken) in
+    let u = both _ _ (t .0) in
+    let v = both _ _ (u .0) in
+    (r .is-ready-braille .ensures (t .1), (sym (d .before .before .in-domain .ensures) ∙ v .0, (sym (d .before .in-domain2 .ensures) ∙ v .1, sym (d .in-domain3 .ensures) ∙ u .1)))
 
-circle-braille-requires : tie.Need-circle-braille-requires
-circle-braille-requires c κs = (c .before .before .before .if1 .taken, c .before .is-circle-inside .ensures)
+in-domain-requires : tie.Need-in-domain-requires
+in-domain-requires c κs = search needs
+
+in-domain-requires-2 : tie.Need-in-domain-requires-2
+in-domain-requires-2 c κs = search needs
+
+in-domain-requires-3 : tie.Need-in-domain-requires-3
+in-domain-requires-3 c κs = search needs
+
+is-ready-braille-requires : tie.Need-is-ready-braille-requires
+is-ready-braille-requires c κs = search needs
+
+is-circle-inside-requires : tie.Need-is-circle-inside-requires
+is-circle-inside-requires c κs = known (c .before) .1
+
+circle-inside-requires : tie.Need-circle-inside-requires
+circle-inside-requires c κs =
+    let t = c .before in
+    let i = t .before in
+    (known (i .before .before) .0, i .is-circle-inside .ensures (t .if2 .taken))
 
 same-length : tie.Need-same-length
 same-length c = search needs
@@ -15,8 +43,8 @@ same-length c = search needs
 returns : tie.Need-returns
 returns c = search needs
 
-circle-any-requires : tie.Need-circle-any-requires
-circle-any-requires c κs = search needs
+circle-partly-requires : tie.Need-circle-partly-requires
+circle-partly-requires c κs = known (c .before .before .before .before)
 
 same-length-2 : tie.Need-same-length-2
 same-length-2 c = search needs
@@ -24,5 +52,30 @@ same-length-2 c = search needs
 returns-2 : tie.Need-returns-2
 returns-2 c = search needs
 
+circle-any-requires : tie.Need-circle-any-requires
+circle-any-requires c κs = search needs
+
+same-length-3 : tie.Need-same-length-3
+same-length-3 c = search needs
+
+returns-3 : tie.Need-returns-3
+returns-3 c = search needs
+
 pub paint-circle-spec : {M : Type 1} → statement M
-paint-circle-spec = tie.close (tie.spec is-circle-inside-requires circle-braille-requires same-length returns circle-any-requires same-length-2 returns-2)
+paint-circle-spec =
+    tie.close
+    (tie.spec
+    in-domain-requires
+    in-domain-requires-2
+    in-domain-requires-3
+    is-ready-braille-requires
+    is-circle-inside-requires
+    circle-inside-requires
+    same-length
+    returns
+    circle-partly-requires
+    same-length-2
+    returns-2
+    circle-any-requires
+    same-length-3
+    returns-3)

@@ -3,6 +3,7 @@ use native.Mathlib.Omega.{arith}
 use borrow.Author.Needs.{needs}
 use borrow.Author.Tests.{ltb-true, eqb-true}
 use Rattle.walk.specs.Walk.{Fits16}
+use Rattle.walk.proofs.CourseDots.{course-whole}
 use Rattle.grids.proofs.Cases.{both}
 use Rattle.shapes.proofs.CourseLoops.{braille-held, plain-held}
 use Rattle.shapes.proofs.painters.paint_course.Statement.{statement}
@@ -60,6 +61,7 @@ held-plain-requires c κs =
     let t = both _ _ (c .before .if2 .taken) in (
       m .is-plain .ensures (t .0),
       plain-held (a .p) (a .e) (fits s) (a .c) (a .cells .now) _ _ _ _ (s .pre) (h .cells-held .ensures) (right .greater .ensures) (low .greater2 .ensures) (ltb-true _ _ (t .1)) (i .flat-index2 .ensures),
+      λ k. course-whole (a .e) (fits s) (a .c) k (s .pre),
     )
 
 same-length-2 : tie.Need-same-length-2

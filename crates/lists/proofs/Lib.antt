@@ -1,0 +1,4 @@
+-- Laws of lists of pairs in bytes.
+pub mod PairLists
+pub mod LentPrefix
+pub mod PairParts

@@ -1,0 +1,2 @@
+-- Lists of pairs in bytes.
+pub mod Lists

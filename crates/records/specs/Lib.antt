@@ -1,0 +1,3 @@
+-- The records of a picture file.
+pub mod Records
+pub mod Steps
