@@ -30,6 +30,7 @@ pub fn tables() -> Vec<Table> {
 
 const BRAILLE: u8 = 1;
 const DOT: u8 = 2;
+const HALF_BLOCK: u8 = 5;
 
 fn kinds(size: Size) -> Vec<Class> {
     let class = |name, goal, file| Class { name, size, goal, file };
@@ -37,9 +38,11 @@ fn kinds(size: Size) -> Vec<Class> {
         class("empty", 1.0, File::open(size, BRAILLE).bytes),
         class("400 lines, Dot", 1.5, lines(size, DOT, 400)),
         class("400 lines, Braille", 1.5, lines(size, BRAILLE, 400)),
+        class("400 lines, HalfBlock", 1.0, lines(size, HALF_BLOCK, 400)),
         class("2 lists of 1,000 points", 1.0, points(size, 2, 1000)),
         class("100 lists of 10 points", 1.0, points(size, 100, 10)),
-        class("100 circles", 3.0, circles(size, 100)),
+        class("100 circles", 3.0, circles(size, BRAILLE, 100)),
+        class("100 circles, HalfBlock", 1.0, circles(size, HALF_BLOCK, 100)),
         class("200 small filled lines", 5.0, filled_lines(size, 200, 0.05, 0.05)),
         class("200 narrow filled lines", 5.0, filled_lines(size, 200, 0.04, 0.5)),
         class("20 large filled lines", 5.0, filled_lines(size, 20, 1.0, 1.0)),
@@ -124,9 +127,9 @@ fn points(size: Size, lists: usize, count: u16) -> Vec<u8> {
     file.bytes
 }
 
-fn circles(size: Size, count: usize) -> Vec<u8> {
+fn circles(size: Size, marker: u8, count: usize) -> Vec<u8> {
     let mut random = Random(5);
-    let mut file = File::open(size, BRAILLE);
+    let mut file = File::open(size, marker);
     for _ in 0..count {
         let circle = [random.within(0.0, 100.0), random.within(0.0, 100.0), random.within(2.0, 40.0)];
         file.draw(4, &circle, random.color());

@@ -12,8 +12,8 @@ use grids::markers::is_marker;
 use grids::painting::cell_count;
 use grids::painting::paint;
 use layers::blank;
+use layers::finish_layer;
 use layers::reset;
-use layers::save_reset;
 use ledger::labels::Choice;
 use ledger::screen::Area;
 use ledger::state::Answer;
@@ -29,7 +29,7 @@ use limits::state::is_bad_size;
 use limits::state::is_full;
 use limits::state::is_outside_grid;
 use limits::state::state;
-use shapes::painters::Painter;
+use lines::painter::Painter;
 use shapes::painters::Shape;
 use shapes::painters::paint_shape;
 use view::point::Found;
@@ -282,7 +282,7 @@ fn clear_grid(c: Canvas, cells: &mut [u32])
     ensures { λ r. ⌜ now (cells .exit) ≡ markedCells c (now (cells .entry)) ⌝ }
 {
     if c.dirty {
-        save_reset(&mut *cells, c.columns, c.rows, c.marker, c.character);
+        finish_layer(&mut *cells, c.columns, c.rows, c.marker, c.character);
     } else {
         reset(&mut *cells, c.columns, c.rows);
     }
@@ -293,7 +293,7 @@ fn finish(c: Canvas, cells: &mut [u32])
     ensures { λ r. ⌜ now (cells .exit) ≡ renderedCells c (now (cells .entry)) ⌝ }
 {
     if c.dirty {
-        save_reset(&mut *cells, c.columns, c.rows, c.marker, c.character);
+        finish_layer(&mut *cells, c.columns, c.rows, c.marker, c.character);
     }
 }
 
@@ -399,7 +399,7 @@ pub fn layer(canvas: Canvas, cells: &mut [u32], labels: &[u32]) -> Called
     if n != 0 {
         return refused(canvas, n);
     }
-    save_reset(
+    finish_layer(
         &mut *cells,
         canvas.columns,
         canvas.rows,

@@ -7,18 +7,18 @@ use native.Mathlib.Omega.{arith}
 use native.Mathlib.Nat.{add-zero, add-suc, add-assoc, zero-mul, div-one, mod-one, mul-le-mul-right}
 use lib.Dec.{eqb, ltb}
 use lib.ListN.{length, getD, set, length-set}
-use lib.Seq.{getD-set-same, getD-set-other, set-getD, set-set, set-comm}
+use lib.Seq.{getD-set-same, getD-set-other, set-set, set-comm}
 use lib.Pow.{pow-add, pow-pos}
 use lib.Bits.{bitOr, or-zero-l, or-block}
-use borrow.Author.Tests.{lt-ltb, le-ltb, ltb-true, ltb-false, eqb-true, eqb-false, ne-eqb}
+use borrow.Author.Tests.{lt-ltb, ltb-true, ltb-false, eqb-true, eqb-false, ne-eqb}
 use Rattle.grids.specs.Markers.{by, dotSize, isHalfBlock}
 use Rattle.grids.specs.Dots.{cellIndex, bitOf}
-use Rattle.grids.specs.Cells.{cellAt, putCell, wordsAt, putWords}
-use Rattle.grids.specs.Painting.{paintedCell, paintOf, paintDots}
-use Rattle.columns.specs.Columns.{columnDots, isChar, columnMask, inkedCell, inkedDown, brailleRows}
+use Rattle.grids.specs.Painting.{paintDots, inkedCell}
+use Rattle.columns.specs.Columns.{columnDots, isChar, columnMask, inkedDown, brailleRows}
 use Rattle.grids.proofs.Words.{foldl-append}
 use Rattle.grids.proofs.Patterns.{or-assoc}
 use Rattle.grids.proofs.DotSizes.{single-dot, cell-index-by, bit-by}
+use Rattle.grids.proofs.InkedCells.{ink-words, ink-past, dot-inked}
 
 -- ---- a column in two parts
 column-parts : (column row m n : ℕ) → columnDots column row (m + n) ≡ columnDots column row m ++ columnDots column (row + m) n
@@ -26,18 +26,7 @@ column-parts column row m zero = rw (add-zero m, append-nil (columnDots column r
 column-parts column row m (suc n) =
     rw (add-suc m n, column-parts column row m n, append-assoc, add-assoc row m n)
 
--- ---- a cell inked
-module _ (cells : List ℕ) (i bits word : ℕ) where
-  -- only its last two words change
-  pub ink-words : i < length cells / 5 → inkedCell cells i bits word ≡ set (set cells (i * 5 + 3) (bitOr (getD cells (i * 5 + 3) 0) bits)) (i * 5 + 4) word
-  unfolding inkedCell putCell putWords cellAt wordsAt
-  ink-words h = rw (lt-ltb i (length cells / 5) h, set-getD cells (i * 5) 0, set-getD cells (i * 5 + 1) 0, set-getD cells (i * 5 + 2) 0)
-
-  ink-past : length cells / 5 ≤ i → inkedCell cells i bits word ≡ cells
-  unfolding inkedCell putCell
-  ink-past h = rw (le-ltb i (length cells / 5) h)
-
--- twice with one ink is once with the bits of both
+-- ---- a cell inked twice with one ink is inked once with the bits of both
 ink-ink : (cells : List ℕ) (i a b word : ℕ) → inkedCell (inkedCell cells i a word) i b word ≡ inkedCell cells i (bitOr a b) word
 ink-ink cells i a b word = go (ltb i (length cells / 5)) refl
   where
@@ -73,18 +62,14 @@ module _ (marker columns rows word : ℕ) (other : isHalfBlock marker ≡ false)
   abbrev inkedAt : List ℕ → ℕ → ℕ → List ℕ
   inkedAt cells i bits = cond (ltb i (columns * rows)) (inkedCell cells i bits word) cells
 
-  dot-inked : (cells : List ℕ) (column row i : ℕ) → cellIndex marker columns column row ≡ i → paintOf marker columns rows cells column row word ≡ inkedAt cells i (bitOf marker column row)
-  unfolding paintOf paintedCell inkedCell
-  dot-inked cells column row i e = rw (e, other)
-
   pub dots-in-cell : (cells : List ℕ) (column row i n : ℕ) → ((k : ℕ) → k ≤ n → cellIndex marker columns column (row + k) ≡ i)
       → paintDots marker columns rows word cells (columnDots column row (suc n)) ≡ cond (ltb i (columns * rows)) (inkedCell cells i (columnBits marker column row (suc n)) word) cells
   dots-in-cell cells column row i zero same =
-      dot-inked cells column (row + 0) i (same 0 (omega arith)) ∙ ap (inkedAt cells i) (sym (or-zero-l (bitOf marker column (row + 0))))
+      dot-inked marker columns rows other cells column (row + 0) word i (sym (same 0 (omega arith))) ∙ ap (inkedAt cells i) (sym (or-zero-l (bitOf marker column (row + 0))))
   dots-in-cell cells column row i (suc n) same =
       foldl-append _ cells (columnDots column row (suc n)) (record { column = column; row = row + suc n } ∷ [])
       ∙ rw (dots-in-cell cells column row i n (λ k h. same k (omega arith)))
-      (dot-inked (inkedAt cells i (columnBits marker column row (suc n))) column (row + suc n) i (same (suc n) (omega arith)) ∙ go (ltb i (columns * rows)))
+      (dot-inked marker columns rows other (inkedAt cells i (columnBits marker column row (suc n))) column (row + suc n) word i (sym (same (suc n) (omega arith))) ∙ go (ltb i (columns * rows)))
     where
       a : ℕ
       a = columnBits marker column row (suc n)

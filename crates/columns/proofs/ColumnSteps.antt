@@ -7,8 +7,8 @@ use native.Mathlib.Numerals.{add-one}
 use native.Mathlib.Omega.{arith}
 use lib.Dec.{ltb, leb}
 use borrow.Author.Tests.{ltb-true, leb-true, ne-eqb}
-use Rattle.grids.specs.Painting.{paintOf, paintDots}
-use Rattle.columns.specs.Columns.{columnDots, isChar, columnMask, inkedCell, inkedDown, brailleRows}
+use Rattle.grids.specs.Painting.{paintOf, paintDots, inkedCell}
+use Rattle.columns.specs.Columns.{columnDots, isChar, columnMask, inkedDown, brailleRows}
 use Rattle.grids.proofs.Cases.{both}
 use Rattle.grids.proofs.Words.{foldl-append}
 use Rattle.columns.proofs.ColumnMasks.{braille-rows, char-rows}

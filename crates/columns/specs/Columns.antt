@@ -3,11 +3,9 @@ use Prim.Native.Nat.{ℕ, zero, suc, _+_, _-_, _*_, _/_, _%_, _^_}
 use mathlib.Core.Bool.{Bool, cond, _||_}
 use mathlib.Core.List.{List}
 use lib.Dec.{eqb}
-use lib.Bits.{bitOr}
 use Rattle.walk.specs.Tabulate.{tabulate}
 use Rattle.walk.specs.declared.bresenham.Dot.{Dot}
-use Rattle.grids.specs.Cells.{cellAt, putCell}
-use Rattle.grids.specs.Painting.{withGrid}
+use Rattle.grids.specs.Painting.{inkedCell}
 
 -- n dots of a column, from a row on
 abbrev pub columnDots : ℕ → ℕ → ℕ → List Dot
@@ -21,11 +19,7 @@ isChar marker = ((eqb marker 2 || eqb marker 3) || eqb marker 4) || eqb marker 8
 unfoldable pub columnMask : ℕ → ℕ → ℕ → ℕ
 columnMask column row n = 85 / 2 ^ (8 - n * 2) * 2 ^ (row % 4 * 2 + column % 2)
 
--- the store with these bits added to the pattern of its cell i, and the cell's ink set
-unfoldable pub inkedCell : List ℕ → ℕ → ℕ → ℕ → List ℕ
-inkedCell cells i bits word = putCell cells i (withGrid (cellAt cells i) (bitOr (cellAt cells i .pattern) bits) word)
-
--- the same for n cells below one another, from the cell i on
+-- these bits and this ink set in n cells below one another, from the cell i on
 abbrev pub inkedDown : ℕ → ℕ → ℕ → List ℕ → ℕ → ℕ → List ℕ
 inkedDown columns bits word cells i zero = cells
 inkedDown columns bits word cells i (suc n) = inkedCell (inkedDown columns bits word cells i n) (i + n * columns) bits word

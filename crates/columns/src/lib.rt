@@ -3,14 +3,15 @@
 use grids::painting::cell_count;
 use grids::painting::flat_index;
 use grids::painting::index;
+use grids::painting::ink;
 use grids::painting::paint;
 ghost use mathlib.Core.Path.{_≡_};
 ghost use mathlib.Core.Bool.{true, _&&_};
 ghost use Prim.Native.Nat.{_+_, _-_, _*_, _/_, _%_, _<_, _≤_};
 ghost use lib.Dec.{ltb, leb};
 ghost use lib.ListN.{length};
-ghost use Rattle.grids.specs.Painting.{paintDots};
-ghost use Rattle.columns.specs.Columns.{columnDots, isChar, columnMask, inkedCell, inkedDown, brailleRows};
+ghost use Rattle.grids.specs.Painting.{paintDots, inkedCell};
+ghost use Rattle.columns.specs.Columns.{columnDots, isChar, columnMask, inkedDown, brailleRows};
 
 // Whether a marker's cells are of one dot.
 fn is_char(marker: u8) -> bool
@@ -36,14 +37,14 @@ fn column_mask(column: u32, row: u32, count: u32) -> u32
     (85 >> (8 - count * 2)) << (row % 4 * 2 + column % 2)
 }
 
-// Bits and ink set in a cell; the words of the picture are not touched.
-fn ink(cells: &mut [u32], i: usize, bits: u32, word: u32)
+// Bits and ink set in a cell that the store has.
+fn ink_at(cells: &mut [u32], i: usize, bits: u32, word: u32)
     requires { ⌜ i < length (now cells) / 5 ⌝ }
     ensures { λ r. ⌜ now (cells .exit) ≡ inkedCell (now (cells .entry)) i bits word ⌝ }
 {
     let k = i * 5;
-    cells[k + 3] = cells[k + 3] | bits;
-    cells[k + 4] = word;
+    let e = k + 5;
+    ink(&mut cells[k..e], bits, word);
 }
 
 // The same bits and ink in cells below one another.
@@ -55,7 +56,7 @@ fn ink_down(cells: &mut [u32], first: usize, columns: u16, count: usize, bits: u
     let mut at = first;
     let mut k: usize = 0;
     while k < count {
-        ink(&mut *cells, at, bits, word);
+        ink_at(&mut *cells, at, bits, word);
         at += step;
         k += 1;
     }
@@ -69,7 +70,7 @@ fn ink_braille(cells: &mut [u32], columns: u16, column: u32, low: u32, high: u32
     let head = flat_index(columns, column / 2, low / 4);
     if low / 4 == high / 4 {
         let bits = column_mask(column, low, high - low + 1);
-        ink(&mut *cells, head, bits, word);
+        ink_at(&mut *cells, head, bits, word);
     } else {
         let tail = flat_index(columns, column / 2, high / 4);
         let below = head + index(columns as u32);
@@ -77,9 +78,9 @@ fn ink_braille(cells: &mut [u32], columns: u16, column: u32, low: u32, high: u32
         let first = column_mask(column, low, 4 - low % 4);
         let whole = column_mask(column, 0, 4);
         let last = column_mask(column, 0, high % 4 + 1);
-        ink(&mut *cells, head, first, word);
+        ink_at(&mut *cells, head, first, word);
         ink_down(&mut *cells, below, columns, between, whole, word);
-        ink(&mut *cells, tail, last, word);
+        ink_at(&mut *cells, tail, last, word);
     }
 }
 

@@ -10,7 +10,8 @@ use lib.ListN.{length}
 use Rattle.view.specs.Point.{pointOf, viewOf}
 use Rattle.view.specs.declared.point.Found.{Found}
 use Rattle.view.specs.declared.point.Found.the-variants.{At, Nowhere}
-use Rattle.ledger.specs.Calls.{Call, render, first, badPoint}
+use Rattle.grids.specs.Lists.{first}
+use Rattle.ledger.specs.Calls.{Call, render, badPoint}
 use Rattle.ledger.specs.Ledger.{unless}
 use Rattle.ledger.specs.Model.{State, badCanvas, refusalOn}
 use Rattle.ledger.specs.Contracts.{acceptedAnswer, answerUnless, answerOn}

@@ -3,17 +3,17 @@
 use mathlib.Core.Path.{_≡_, refl, sym, ap, _∙_, subst}
 use mathlib.Core.Logic.{inl, inr}
 use mathlib.Core.Bool.{Bool, true, false, cond, _&&_}
-use Prim.Native.Nat.{ℕ, zero, suc, _+_, _-_, _*_, _/_, _^_, _≤_, _<_, min}
+use Prim.Native.Nat.{ℕ, zero, suc, _-_, _*_, _^_, _≤_, _<_, min}
 use native.Mathlib.Nat.{le-trans, le-of-eq, lt-of-le-of-lt, lt-of-lt-of-le, mul-assoc, mul-comm, mul-left-comm, mul-one, one-mul, mul-right-comm, mul-le-mul-right, mul-lt-mul-of-pos-right, le-of-mul-le-mul-right, lt-of-mul-lt-mul-right, mul-pos, le-div-iff-mul-le, div-lt-iff-lt-mul}
 use native.Mathlib.Omega.{arith}
 use lib.IntN.{ℤ, pos, negsuc, negℤ}
 use lib.Dec.{ltb, eqb, lit<, lit≤, le→leb}
 use lib.Pow.{pow-pos}
-use lib.Ieee.{Float, nan, inf, fin, binary64, up, down, lt, le, add, neg, ofInt, ofBits, inFloat, round}
+use lib.Ieee.{Float, nan, inf, fin, binary64, up, down, lt, le, add, neg, ofInt, ofBits, inFloat}
 use lib.Ieee.Fits.{down-pos}
 use lib.Ieee.Exact.{HasValue}
 use lib.Ieee.Back.{round-whole, unsigned-back}
-use borrow.Author.Tests.{ltb-true, ltb-false, leb-true, leb-false, lt-leb, ne-eqb}
+use borrow.Author.Tests.{ltb-true, ltb-false, leb-false, lt-leb, ne-eqb}
 use Rattle.floats.specs.Arithmetic.{_⊕_}
 use Rattle.floats.specs.Rounding.{dist, IsUnits, midway, Rounded, Rounds, fraction}
 use Rattle.floats.specs.Truncation.{wholePart, asSigned, asUnsigned, wholeOf}
@@ -23,6 +23,7 @@ use Rattle.floats.proofs.Cases.{lt-or-le, true-not-false, false-not-tru
 use Rattle.floats.proofs.Truncation.{unsigned-is}
 use Rattle.floats.proofs.InDomain.{at-most}
 use Rattle.floats.proofs.Rounding.Operations.{sum-once, integer-once}
+use Rattle.floats.proofs.Numbers.{Signed, rounded-signed}
 
 -- 1, and a half, in units
 abbrev one : ℕ
@@ -30,23 +31,6 @@ one = 2 ^ 1074
 
 abbrev half : ℕ
 half = 2 ^ 1073
-
--- ---- not a NaN, and with this sign
-abbrev Signed : Float → Bool → Type 0
-Signed nan s = ⊥
-Signed (inf t) s = t ≡ s
-Signed (fin t m e) s = t ≡ s
-
-rounded-signed : (r : Float) (s : Bool) (num den : ℕ) → Rounded r s num den → Signed r s
-rounded-signed r s num den R = elim (lt-or-le (num * one) (midway * den)) [
-  | inl h ↦ finite r _ (R .within h .2)
-  | inr h ↦ subst (λ (x : Float). Signed x s) (sym (R .over h)) refl
-]
-  where
-    finite : (x : Float) (n : ℕ) → IsUnits x s n → Signed x s
-    finite nan n h = h
-    finite (inf t) n h = absurd h
-    finite (fin t m e) n h = h .0
 
 -- ---- `as i64 as f64 as u64`
 cut-signed : (r : Float) → Signed r true → asUnsigned 64 r ≡ 0

@@ -23,7 +23,7 @@ at-most a b = elim (lt-or-le b a) [
   | inr h ↦ elim (eq-or-lt-of-le h) [ inl e ↦ simp (le-ltb a b (le-of-eq (sym e)), eq-eqb a b e, le-leb a b h) | inr l ↦ simp (lt-ltb a b l, le-leb a b h) ]
 ]
 
-at-most' : (a b : ℕ) → ltb a b || (eqb b a && true) ≡ leb a b
+pub at-most' : (a b : ℕ) → ltb a b || (eqb b a && true) ≡ leb a b
 at-most' a b = elim (lt-or-le b a) [
   | inl h ↦ simp (le-ltb a b (le-of-lt h), ne-eqb b a (λ e. apart a b h (sym e)), lt-leb a b h)
   | inr h ↦ elim (eq-or-lt-of-le h) [ inl e ↦ simp (le-ltb a b (le-of-eq (sym e)), eq-eqb b a (sym e), le-leb a b h) | inr l ↦ simp (lt-ltb a b l, le-leb a b h) ]

@@ -5,6 +5,7 @@ pub mod Sign
 pub mod InDomain
 pub mod DomainBits
 pub mod Rounding
+pub mod Numbers
 pub mod Monotone
 pub mod HalfAdded
 pub mod WholePart

@@ -16,6 +16,7 @@ use lib.Ieee.Scale.{round-same}
 use borrow.Author.Tests.{ltb-true, ltb-false, le-ltb, eqb-true}
 use Rattle.floats.specs.Arithmetic.{_⊕_, _⊗_}
 use Rattle.floats.proofs.Cases.{true-not-false, false-not-true, and-true-left, and-true-right}
+use Rattle.floats.proofs.Numbers.{IsNumber, Signed, round-signed}
 
 -- ---- what is at most another is not above it
 or-cases : (a b : Bool) → a || b ≡ true → (a ≡ true) ⊎ (b ≡ true)
@@ -97,11 +98,6 @@ above-highest (inf s) = refl
 above-highest (fin s m e) = refl
 
 -- ---- the order of floats
-abbrev pub IsNumber : Float → Type 0
-IsNumber nan = ⊥
-IsNumber (inf s) = Unit
-IsNumber (fin s m e) = Unit
-
 pub le-numbers : (x y : Float) → le x y ≡ true → IsNumber x × IsNumber y
 unfolding le
 le-numbers nan y h = false-not-true h
@@ -169,29 +165,8 @@ neg-lt (fin true m e) (fin false n d) = refl
 neg-lt (fin false m e) (fin true n d) = ap (ltb 0) (add-comm (m * up e * down d) (n * up d * down e))
 neg-lt (fin false m e) (fin false n d) = refl
 
--- ---- a rounded number has the sign that it is given
-abbrev IsPositive : Float → Type 0
-IsPositive nan = ⊥
-IsPositive (inf s) = s ≡ false
-IsPositive (fin s m e) = s ≡ false
-
-positive-odd : (d q k l : ℕ) → IsPositive (odd d false q k l)
-unfolding odd
-positive-odd d zero k l = refl
-positive-odd d (suc q) k l = refl
-
-positive-units : (f : Format) (q k : ℕ) → IsPositive (units f false q k)
-unfolding units
-positive-units f q k = go (ltb (q * 2 ^ k) (2 ^ (low f + suc (emax f))))
-  where
-    go : (b : Bool) → IsPositive (cond b (odd (suc (prec f)) false q k (low f)) (inf false))
-    go true = positive-odd (suc (prec f)) q k (low f)
-    go false = refl
-
-positive-round : (f : Format) (n c : ℕ) → IsPositive (round f false n c)
-positive-round f n c = subst IsPositive (sym (round-is f false n c)) (positive-units f _ _)
-
-positive-above : (x y : Float) → IsPositive x → IsPositive y → lt x (neg y) ≡ false
+-- ---- a number without its sign set is not below the opposite of another
+positive-above : (x y : Float) → Signed x false → Signed y false → lt x (neg y) ≡ false
 unfolding lt neg
 positive-above nan y p q = refl
 positive-above (inf true) y p q = true-not-false p
@@ -211,7 +186,7 @@ zeros = refl
 pub round-order : (s : Bool) (n c : ℕ) (t : Bool) (m d : ℕ) → 0 < c → 0 < d → below s (n * d) t (m * c) ≡ false → lt (round binary64 s n c) (round binary64 t m d) ≡ false
 round-order false n c false m d C D h =
     le-not-above (round binary64 false m d) (round binary64 false n c) (is-true _ (round-mono binary64 m d n c D C (ltb-false (n * d) (m * c) h)))
-round-order false n c true m d C D h = rw (neg-round binary64 m d) (positive-above (round binary64 false n c) (round binary64 false m d) (positive-round binary64 n c) (positive-round binary64 m d))
+round-order false n c true m d C D h = rw (neg-round binary64 m d) (positive-above (round binary64 false n c) (round binary64 false m d) (round-signed false n c C) (round-signed false m d D))
 round-order true n c false m d C D h =
     let o = ltb-false 0 (n * d + m * c) h in
     rw (nothing true n c d C D (first (n * d) (m * c) o), nothing false m d c D C (second (n * d) (m * c) o)) zeros

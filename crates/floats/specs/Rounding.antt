@@ -121,12 +121,22 @@ Finite nan = ⊥
 Finite (inf s) = ⊥
 Finite (fin s m e) = Unit
 
--- Each operation that the code uses is its exact result rounded once; every finite float of binary64 competes for nearness; and no two floats of binary64 are both the rounded result.
+-- each result is a float of binary64, whatever the operands
+pub record Fitting : Type 0 where
+  pub sum : (x y : Float) → T (fits binary64 (x ⊕ y))
+  pub difference : (x y : Float) → T (fits binary64 (x ⊖ y))
+  pub product : (x y : Float) → T (fits binary64 (x ⊗ y))
+  pub quotient : (x y : Float) → T (fits binary64 (x ⊘ y))
+  pub integer : (z : ℤ) → T (fits binary64 (ofInt binary64 z))
+
+-- Each operation that the code uses is its exact result rounded once, and a float of binary64; every finite float of binary64 competes for nearness; and no two floats of binary64 are both the
+-- rounded result. So a float of binary64 that is the exact result rounded once is what the operation gives.
 pub record RoundsOnce : Type 0 where
   pub sum : (x y : Float) → Rounds (x ⊕ y) (exactSum x y)
   pub difference : (x y : Float) → Rounds (x ⊖ y) (exactDifference x y)
   pub product : (x y : Float) → Rounds (x ⊗ y) (exactProduct x y)
   pub quotient : (x y : Float) → Rounds (x ⊘ y) (exactQuotient x y)
   pub integer : (z : ℤ) → Rounds (ofInt binary64 z) (exactInteger z)
+  pub fitting : Fitting
   pub candidate : (x : Float) → T (fits binary64 x) → Finite x → Candidate x
   pub determined : (v : Exact) (x y : Float) → T (fits binary64 x) → T (fits binary64 y) → Rounds x v → Rounds y v → x ≡ y

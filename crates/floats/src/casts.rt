@@ -42,9 +42,13 @@ pub fn as_u16(x: f64) -> u16
     65535
 }
 
-// `x as i64 as f64`.
+// `x as i64 as f64`. The way back of 0, which most numbers that a circle asks for give, is written out.
 pub fn as_whole(x: f64) -> f64
     ensures { λ r. ⌜ r ≡ wholeOf x ⌝ }
 {
-    std::num::nearest_i64_to_f64(as_i64(x))
+    let n = as_i64(x);
+    if n == 0 {
+        return 0.0;
+    }
+    std::num::nearest_i64_to_f64(n)
 }

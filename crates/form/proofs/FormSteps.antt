@@ -8,7 +8,7 @@ use lib.ListN.{length}
 use lib.Dec.{ltb, leb}
 use borrow.Author.Tests.{lt-ltb, le-ltb, le-leb, lt-leb, ltb-false}
 use Rattle.floats.proofs.Cases.{or-false-left, or-false-right}
-use Rattle.ledger.proofs.Refusals.{cond-none}
+use Rattle.grids.proofs.Cases.{cond-none}
 use Rattle.form.specs.declared.sizes.Form.{Form}
 use Rattle.form.specs.Forms.{maxFile, isUnknown, kindAt, mapAt, recordWidths, recordEnd, recordForm, formBy}
 

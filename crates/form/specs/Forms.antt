@@ -4,7 +4,7 @@ use mathlib.Core.Bool.{Bool, cond, _||_}
 use mathlib.Core.List.{List, [], _∷_}
 use lib.Dec.{eqb, ltb, leb}
 use lib.ListN.{length, getD, drop}
-use Rattle.ledger.specs.Calls.{first}
+use Rattle.grids.specs.Lists.{first}
 use Rattle.form.specs.Fields.{numberAt, placeOf, sizeBy, numberIn}
 use Rattle.form.specs.declared.sizes.Form.{Form}
 

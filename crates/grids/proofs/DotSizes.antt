@@ -1,11 +1,12 @@
 -- The dots in a cell: of the markers without a size of their own, the bounds of all, and what follows from them.
 use Prim.Native.Nat.{ℕ, _+_, _*_, _/_, _%_, _^_, _≤_, _<_}
-use mathlib.Core.Path.{_≡_, ap}
+use mathlib.Core.Path.{_≡_, refl, ap}
+use mathlib.Core.Bool.{true, false}
 use native.Mathlib.Nat.{mul-le-mul}
 use native.Mathlib.Omega.{arith}
 use lib.Dec.{eqb}
 use borrow.Author.Tests.{ne-eqb}
-use Rattle.grids.specs.Markers.{by, dotSize, dotColumns, dotRows}
+use Rattle.grids.specs.Markers.{by, dotSize, dotColumns, dotRows, isPlain}
 use Rattle.grids.specs.Dots.{cellIndex, bitOf}
 use Rattle.grids.specs.Symbols.{patternCount}
 use Rattle.grids.specs.declared.markers.Size.{Size}
@@ -14,6 +15,12 @@ use Rattle.grids.proofs.Cases.{either}
 pub single-dot : (marker : ℕ) → (marker ≡ 1 → ⊥) → (marker ≡ 5 → ⊥) → (marker ≡ 6 → ⊥) → (marker ≡ 7 → ⊥) → dotSize marker ≡ by 1 1
 unfolding dotSize
 single-dot marker a b c d = simp (ne-eqb _ _ a, ne-eqb _ _ b, ne-eqb _ _ c, ne-eqb _ _ d)
+
+pub plain-size : (marker : ℕ) → isPlain marker ≡ true → dotSize marker ≡ by 1 1
+plain-size marker plain = single-dot marker (several 1 refl) (several 5 refl) (several 6 refl) (several 7 refl)
+  where
+    several : (k : ℕ) → isPlain k ≡ false → marker ≡ k → ⊥
+    several k several-dots e = let z : _≡_ {A = ℕ} 0 1 = cc in omega arith
 
 -- at most 2 across and 4 down
 abbrev pub Small : Size → Type 0

@@ -7,6 +7,7 @@ pub mod Words
 pub mod CellStore
 pub mod Patterns
 pub mod DotsInCell
-pub mod DotsSet
+pub mod InkedCells
+pub mod HalfCells
 pub mod OneInk
 pub mod Charts

@@ -22,3 +22,8 @@ over (suc upper) lower = suc upper
 abbrev pub lastWord : {A : Type 0} → (A → ℕ) → List A → ℕ
 lastWord word [] = 0
 lastWord word (x ∷ xs) = over (lastWord word xs) (word x)
+
+-- of conditions with their numbers the first one that holds gives its number; 0 where none does
+abbrev pub first : List (Bool × ℕ) → ℕ
+first [] = 0
+first (t ∷ ts) = cond (t .0) (t .1) (first ts)

@@ -1,6 +1,6 @@
 -- Document 01, 'Grids': the markers by number, and their dots in a cell.
 use Prim.Native.Nat.{ℕ, _*_}
-use mathlib.Core.Bool.{Bool, cond, _&&_, _||_}
+use mathlib.Core.Bool.{Bool, cond, not, _&&_, _||_}
 use lib.Dec.{eqb, ltb, leb}
 use Rattle.grids.specs.declared.markers.Size.{Size}
 
@@ -16,6 +16,10 @@ dotColumns marker = dotSize marker .columns
 
 abbrev pub dotRows : ℕ → ℕ
 dotRows marker = dotSize marker .rows
+
+-- whether its cells are of one dot: none of 1, 5, 6 and 7. A number that is no marker counts, as it paints like Dot
+abbrev pub isPlain : ℕ → Bool
+isPlain marker = not (eqb marker 1) && (ltb marker 5 || leb 8 marker)
 
 -- the resolution of a grid of cells, in dots
 abbrev pub resolutionOf : ℕ → ℕ → ℕ → Size

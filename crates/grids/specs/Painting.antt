@@ -41,17 +41,23 @@ inked ink dots = map (λ d. record { column = d .column; row = d .row; ink = ink
 abbrev pub paintInked : ℕ → ℕ → ℕ → List ℕ → List Inked → List ℕ
 paintInked marker columns rows cells dots = foldl (λ s d. paintOf marker columns rows s (d .column) (d .row) (suc (d .ink))) cells dots
 
+-- ---- the same by the two words of the grid, which a dot of any grid but HalfBlock changes
+-- the store with these bits added to the pattern of its cell i, and the cell's ink set
+unfoldable pub inkedCell : List ℕ → ℕ → ℕ → ℕ → List ℕ
+inkedCell cells i bits word = putCell cells i (withGrid (cellAt cells i) (bitOr (cellAt cells i .pattern) bits) word)
+
+-- that cell's words alone; words that are not those of one cell stay
+unfoldable pub inkedWords : List ℕ → ℕ → ℕ → List ℕ
+inkedWords ws bits word = cond (eqb (length ws) 5) (set (set ws 3 (bitOr (getD ws 3 0) bits)) 4 word) ws
+
 -- ---- the same in a loop over dots, with what the loop does not change computed before it
 -- how many of a canvas' cells the store has
 abbrev pub cellsHeld : List ℕ → ℕ → ℕ → ℕ
 cellsHeld cells columns rows = min (columns * rows) (length cells / 5)
 
--- the bit and ink of a dot in the cell i, where that is one of the first `end` and the store has it; the picture's words stay
+-- the bit and ink of a dot in the cell i, where that is one of the first `end`
 unfoldable pub dotSet : List ℕ → ℕ → ℕ → ℕ → ℕ → List ℕ
-dotSet cells end i bit word =
-    cond (ltb i (min end (length cells / 5)))
-    (set (set cells (i * 5 + 3) (bitOr (getD cells (i * 5 + 3) 0) bit)) (i * 5 + 4) word)
-    cells
+dotSet cells end i bit word = cond (ltb i end) (inkedCell cells i bit word) cells
 
 -- 'Braille 2 by 4 dots', and '1 by 1 dots for markers 2, 3, 4 and 8'
 abbrev pub brailleDot : ℕ → ℕ → List ℕ → ℕ → ℕ → ℕ → List ℕ
@@ -59,6 +65,11 @@ brailleDot columns end cells column row word = dotSet cells end (row / 4 * colum
 
 abbrev pub plainDot : ℕ → ℕ → List ℕ → ℕ → ℕ → ℕ → List ℕ
 plainDot columns end cells column row word = dotSet cells end (row * columns + column) 1 word
+
+-- 'HalfBlock 1 by 2': the ink of a dot's half
+unfoldable pub halfDot : ℕ → ℕ → List ℕ → ℕ → ℕ → ℕ → List ℕ
+halfDot columns end cells column row word =
+    cond (ltb (row / 2 * columns + column) (min end (length cells / 5))) (set cells ((row / 2 * columns + column) * 5 + 3 + row % 2) word) cells
 
 -- Where `end` is the number of cells held, they paint what `paintOf` does.
 abbrev pub BraillePaints : Type 0
@@ -68,3 +79,7 @@ BraillePaints = (columns rows : ℕ) (cells : List ℕ) (column row word end : �
 abbrev pub PlainPaints : Type 0
 PlainPaints = (marker : ℕ) → dotSize marker ≡ by 1 1 → (columns rows : ℕ) (cells : List ℕ) (column row word end : ℕ) → end ≡ cellsHeld cells columns rows
     → plainDot columns end cells column row word ≡ paintOf marker columns rows cells column row word
+
+abbrev pub HalfPaints : Type 0
+HalfPaints = (columns rows : ℕ) (cells : List ℕ) (column row word end : ℕ) → end ≡ cellsHeld cells columns rows
+    → halfDot columns end cells column row word ≡ paintOf 5 columns rows cells column row word

@@ -1,7 +1,7 @@
 // The markers of document 01, 'Grids': 1 Braille, 2 Dot, 3 Block, 4 Bar, 5 HalfBlock, 6 Quadrant,
 // 7 Sextant, 8 Custom.
 ghost use mathlib.Core.Path.{_≡_};
-ghost use Rattle.grids.specs.Markers.{dotSize, isScalar, isMarker, resolutionOf};
+ghost use Rattle.grids.specs.Markers.{dotSize, isPlain, isScalar, isMarker, resolutionOf};
 
 // A number of columns and of rows.
 pub struct Size {
@@ -41,6 +41,13 @@ pub fn dot_size(marker: u8) -> Size
         columns: 1,
         rows: 1,
     }
+}
+
+// Whether a marker's cells are of one dot: not Braille, HalfBlock, Quadrant or Sextant.
+pub fn is_plain(marker: u8) -> bool
+    ensures { λ r. ⌜ r ≡ isPlain marker ⌝ }
+{
+    (marker != 1) & ((marker < 5) | (marker >= 8))
 }
 
 // The dots of a grid of cells, across and down.

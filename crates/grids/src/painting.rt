@@ -5,7 +5,7 @@ use crate::cells::store;
 ghost use mathlib.Core.Path.{_≡_};
 ghost use Prim.Native.Nat.{_+_, _*_, _<_, _^_, min};
 ghost use Rattle.grids.specs.Dots.{cellIndex, bitOf};
-ghost use Rattle.grids.specs.Painting.{paintedCell, paintOf, cellsHeld, dotSet, brailleDot, plainDot};
+ghost use Rattle.grids.specs.Painting.{paintedCell, paintOf, inkedWords, cellsHeld, dotSet, brailleDot, plainDot, halfDot};
 
 // A number of 32 bits as an index.
 pub fn index(x: u32) -> usize
@@ -118,8 +118,8 @@ fn lesser(a: usize, b: usize) -> usize
     if a < b { a } else { b }
 }
 
-// How many of a canvas' cells the store has: for paint_braille and paint_plain, and to test the cells
-// of a line once.
+// How many of a canvas' cells the store has: for paint_braille, paint_plain and paint_half, and to test
+// the cells of a line once.
 pub fn cells_held(cells: &[u32], columns: u16, rows: u16) -> usize
     ensures { λ r. ⌜ r ≡ cellsHeld (now (cells .entry)) columns rows ⌝ }
 {
@@ -127,17 +127,27 @@ pub fn cells_held(cells: &[u32], columns: u16, rows: u16) -> usize
     lesser(n, cells.len() / 5)
 }
 
-// A dot's bit and ink set in the cell i, where it is one of the first `end` and the store has it.
-// The picture's three words are not touched.
-fn set_dot(cells: &mut [u32], end: usize, i: usize, b: u32, word: u32)
-    ensures { λ r. ⌜ now (cells .exit) ≡ dotSet (now (cells .entry)) end i b word ⌝ }
+// Bits and ink set in the words of one cell, lent by themselves; those of the picture are not
+// touched. A part of another length stays as it is: where five words are lent, the compiler leaves
+// the test out.
+pub fn ink(cell: &mut [u32], bits: u32, word: u32)
+    ensures { λ r. ⌜ now (cell .exit) ≡ inkedWords (now (cell .entry)) bits word ⌝ }
+{
+    if cell.len() == 5 {
+        cell[3] = cell[3] | bits;
+        cell[4] = word;
+    }
+}
+
+// The cell i inked, where it is one of the first `end` and the store has it.
+fn ink_within(cells: &mut [u32], end: usize, i: usize, bits: u32, word: u32)
+    ensures { λ r. ⌜ now (cells .exit) ≡ dotSet (now (cells .entry)) end i bits word ⌝ }
 {
     let held = lesser(end, cells.len() / 5);
     if i < held {
         let k = i * 5;
-        let pattern = cells[k + 3];
-        cells[k + 3] = pattern | b;
-        cells[k + 4] = word;
+        let e = k + 5;
+        ink(&mut cells[k..e], bits, word);
     }
 }
 
@@ -148,7 +158,7 @@ pub fn paint_braille(cells: &mut [u32], columns: u16, end: usize, column: u32, r
     let i = flat_index(columns, column / 2, row / 4);
     let place = row % 4 * 2 + column % 2;
     let b = power(place);
-    set_dot(&mut *cells, end, i, b, word);
+    ink_within(&mut *cells, end, i, b, word);
 }
 
 // The same with a marker of one dot a cell: '1 by 1 dots for markers 2, 3, 4 and 8'.
@@ -156,5 +166,18 @@ pub fn paint_plain(cells: &mut [u32], columns: u16, end: usize, column: u32, row
     ensures { λ r. ⌜ now (cells .exit) ≡ plainDot columns end (now (cells .entry)) column row word ⌝ }
 {
     let i = flat_index(columns, column, row);
-    set_dot(&mut *cells, end, i, 1, word);
+    ink_within(&mut *cells, end, i, 1, word);
+}
+
+// The same with HalfBlock: the ink of the dot's half, the upper or the lower, is set.
+pub fn paint_half(cells: &mut [u32], columns: u16, end: usize, column: u32, row: u32, word: u32)
+    ensures { λ r. ⌜ now (cells .exit) ≡ halfDot columns end (now (cells .entry)) column row word ⌝ }
+{
+    let i = flat_index(columns, column, row / 2);
+    let held = lesser(end, cells.len() / 5);
+    if i < held {
+        let half = index(row % 2);
+        let k = i * 5 + 3 + half;
+        cells[k] = word;
+    }
 }

@@ -1,6 +1,6 @@
 // What the grid being drawn sets in the picture, and the loops over a canvas' cells: save, reset, both
-// in one pass, and blank (the grids' `save` and `reset` of src/canvas.rs in ratatui-widgets). In a
-// LayerCell, as in the store, a word of 0 sets nothing and value + 1 sets a value.
+// for a finished layer, and blank (the grids' `save` and `reset` of src/canvas.rs in ratatui-widgets).
+// In a LayerCell, as in the store, a word of 0 sets nothing and value + 1 sets a value.
 use grids::cells::Cell;
 use grids::cells::load;
 use grids::cells::store;
@@ -336,14 +336,28 @@ pub fn reset(cells: &mut [u32], columns: u16, rows: u16)
     }
 }
 
-// save and reset in one pass: 'Each saving clears the grid'.
-pub fn save_reset(cells: &mut [u32], columns: u16, rows: u16, marker: u8, character: u32)
+// save and reset in one pass, four cells at a time.
+fn save_reset(cells: &mut [u32], columns: u16, rows: u16, marker: u8, character: u32)
     ensures { λ r. ⌜ now (cells .exit) ≡ resetOf (saveOf marker (character % 2 ^ 21) (now (cells .entry)) (columns * rows)) (columns * rows) ⌝ }
 {
     let n = held(&*cells, columns, rows);
     let fours = n / 4;
     merge_fours(&mut *cells, fours, marker, character);
     merge_rest(&mut *cells, fours * 4, n, marker, character);
+}
+
+// A layer saved, and its grid cleared: 'Each saving clears the grid'. HalfBlock, Quadrant and Sextant
+// take the two passes of the Rust. Braille and the grids of one dot a cell, which most pictures are
+// drawn on, take one: there a second pass was measured to matter.
+pub fn finish_layer(cells: &mut [u32], columns: u16, rows: u16, marker: u8, character: u32)
+    ensures { λ r. ⌜ now (cells .exit) ≡ resetOf (saveOf marker (character % 2 ^ 21) (now (cells .entry)) (columns * rows)) (columns * rows) ⌝ }
+{
+    if (marker == 5) | (marker == 6) | (marker == 7) {
+        save(&mut *cells, columns, rows, marker, character);
+        reset(&mut *cells, columns, rows);
+    } else {
+        save_reset(&mut *cells, columns, rows, marker, character);
+    }
 }
 
 // The canvas' cells made blank: by words, which the compiler makes one fill of memory.

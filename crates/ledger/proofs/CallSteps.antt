@@ -17,7 +17,8 @@ use Rattle.ledger.specs.Contracts.{given, refusalBy, acceptedAnswer, ans
 use Rattle.ledger.specs.declared.state.Canvas.{Canvas}
 use Rattle.ledger.specs.declared.state.Answer.the-variants.{Refused, Done}
 use Rattle.ledger.specs.declared.state.Called.{Called}
-use Rattle.ledger.proofs.Refusals.{GoodOpening, size-within, cond-none}
+use Rattle.grids.proofs.Cases.{cond-none}
+use Rattle.ledger.proofs.Refusals.{GoodOpening, size-within}
 
 -- what a contract asks: the canvas and answer, and the stores after the call
 pub record Gives (s : State) (c : Call) (r : Called) (cellsAfter labelsAfter : List ℕ) : Type 0 where

@@ -19,7 +19,8 @@ use Rattle.ledger.specs.declared.labels.Choice.{Choice}
 use Rattle.ledger.specs.declared.screen.Area.{Area}
 use Rattle.ledger.specs.declared.state.Canvas.{Canvas}
 use Rattle.ledger.specs.declared.state.Answer.the-variants.{Done, Rendered}
-use Rattle.ledger.proofs.Refusals.{cond-none, print-fits}
+use Rattle.grids.proofs.Cases.{cond-none}
+use Rattle.ledger.proofs.Refusals.{print-fits}
 use Rattle.ledger.proofs.CallSteps.{Gives, accepted-gives, accepted-fine, accepted-own}
 
 module _ (c : Canvas) (cells labels : List ℕ) where

@@ -7,7 +7,7 @@ use Rattle.grids.specs.Lists.{over, lastWord}
 use Rattle.grids.specs.Dots.{Inked, layerSets}
 use Rattle.grids.specs.declared.layer.LayerCell.{LayerCell}
 use Rattle.grids.proofs.OneInk.{layer-swap}
-use Rattle.shapes.specs.Shapes.{flat}
+use Rattle.lines.specs.Painted.{flat}
 use Rattle.ledger.specs.Calls.{Opening, Call, draw, points, dot, layer, marker, print, render}
 use Rattle.ledger.specs.Ledger.{Layer, Label, Ledger, layers, layerAt, pictureOf, screenCell, paintedIn, refusalIn, withDots, addedDots, accepted, Reply, painted, shown, reply, unless, replyUnless, ledgerAfter, ledgerReply, ledgerReplies}
 use Rattle.ledger.specs.declared.screen.Area.{Area}

@@ -6,8 +6,8 @@ use native.Mathlib.Omega.{arith}
 use lib.ListN.{length}
 use borrow.Author.Tests.{ltb-false}
 use Rattle.view.specs.Limits.{maxColumns, maxRows, maxDraws, maxPainted, reset}
-use Rattle.shapes.specs.Drawing.{paintedBy}
-use Rattle.shapes.specs.declared.painters.Painter.{Painter}
+use Rattle.lines.specs.Painted.{paintedBy}
+use Rattle.lines.specs.declared.painter.Painter.{Painter}
 use Rattle.ledger.specs.Calls.{Call, draw, points, dot, badShape, badPairs, badColour, refusal, callDots}
 use Rattle.ledger.specs.Ledger.{inkOf}
 use Rattle.ledger.specs.Model.{State, openingOf, refusalOn, dotsOn, drawnCanvas}
@@ -15,7 +15,8 @@ use Rattle.ledger.specs.Contracts.{refusalBy, painterOf}
 use Rattle.ledger.specs.declared.state.Answer.the-variants.{Painted}
 use Rattle.ledger.specs.declared.state.Called.{Called}
 use Rattle.ledger.proofs.DotCounts.{few-dots}
-use Rattle.ledger.proofs.Refusals.{Paints, by-draw, by-points, by-dot, cond-none, size-within, paints-room, paints-few}
+use Rattle.grids.proofs.Cases.{cond-none}
+use Rattle.ledger.proofs.Refusals.{Paints, by-draw, by-points, by-dot, size-within, paints-room, paints-few}
 use Rattle.ledger.proofs.CallSteps.{Gives, gives-accepted, Fine, accepted-fine, accepted-own, refusal-by}
 
 module _ (s : State) (c : Call) (p : Paints c) (e : 0 ≡ refusalOn s c) where

@@ -2,7 +2,7 @@
 use mathlib.Core.Path.{_≡_, refl}
 use mathlib.Core.Bool.{Bool, true, false, cond, not, _&&_, _||_}
 use mathlib.Core.List.{List}
-use Prim.Native.Nat.{ℕ, suc, _+_, _*_, _≤_, _<_}
+use Prim.Native.Nat.{ℕ, _+_, _*_, _≤_, _<_}
 use native.Mathlib.Omega.{arith}
 use lib.Dec.{ltb, leb}
 use lib.Ieee.{Float}
@@ -10,6 +10,7 @@ use lib.ListN.{length}
 use borrow.Author.Tests.{ltb-false, leb-true, leb-false, lt-leb, eqb-true, not-false}
 use Rattle.floats.proofs.Cases.{and-true-left, and-true-right, or-false-left, or-false-right}
 use Rattle.grids.specs.Markers.{isMarker}
+use Rattle.grids.proofs.Cases.{cond-none}
 use Rattle.view.specs.Limits.{maxColumns, maxRows, maxDraws, maxPairs, maxLabels, maxText}
 use Rattle.shapes.specs.declared.painters.Pair.{Pair}
 use Rattle.ledger.specs.Calls.{Opening, Call, draw, points, dot, layer, marker, print, render, badSize, badBounds, badColour, badShape, badPairs, badPoint, badChoice, badText, badBytes, passesEdge, badScreen, refusal, openRefusal}
@@ -26,11 +27,6 @@ pub data Paints : Call → Type 0 where
 
 pub data Prints : Call → Type 0 where
   by-print : (x y : Float) (text : List ℕ) (choice : Choice) → Prints (print x y text choice)
-
--- ---- chains of conditions
-pub cond-none : (b : Bool) (number other : ℕ) → cond b (suc number) other ≡ 0 → (b ≡ false) × (other ≡ 0)
-cond-none true number other e = absurd (omega arith)
-cond-none false number other e = (refl, e)
 
 -- ---- an opening
 pub record GoodOpening (o : Opening) : Type 0 where

@@ -17,7 +17,8 @@ use Rattle.ledger.specs.Calls.{Opening, Call, draw, points, dot, layer, 
 use Rattle.ledger.specs.Ledger.{Label, Ledger, refusalIn, withDots, withLabel, inkOf, addedDots, accepted, Reply, refused, painted, done, shown, reply, replyUnless, ledgerAfter, ledgerReply, ledgerReplies}
 use Rattle.ledger.specs.Promise.{firstShown, isAccepted, NoRefusal, Reordered, Every, nil, cons, OfColour, isPrint}
 use Rattle.ledger.specs.declared.labels.Choice.{Choice}
-use Rattle.ledger.proofs.Refusals.{cond-none, Paints, by-draw, by-points, by-dot, Prints, by-print, paints-room, paints-again}
+use Rattle.grids.proofs.Cases.{cond-none}
+use Rattle.ledger.proofs.Refusals.{Paints, by-draw, by-points, by-dot, Prints, by-print, paints-room, paints-again}
 use Rattle.ledger.proofs.Sums.{ledgerThrough}
 use Rattle.ledger.proofs.Exchanges.{Exchanged, ex-none, ex-same, ex-swap, ex-both, exchanged-front, exchanged-back, exchanged-sym, exchanged-past, exchanged-lists, every-reordered, exchanged-reordered, reordered-keep}
 use Rattle.ledger.proofs.Likeness.{SameInk, Alike, layers-alike-refl, alike-refl, alike-trans, after-alike, replies-alike}

@@ -14,7 +14,8 @@ use Rattle.ledger.specs.Ledger.{Ledger, layers, opened, pictureOf, place
 use Rattle.ledger.specs.Model.{State, refusalOn, renderedCells, screenAfter, acceptedOn, replyOn, stateAfter, replyAfter, replies}
 use Rattle.ledger.specs.Promise.{openState, firstShown, isAccepted, NoRefusal, withoutRefused}
 use Rattle.ledger.specs.declared.screen.Area.{Area}
-use Rattle.ledger.proofs.Refusals.{cond-none, GoodOpening, open-accepted, render-fits}
+use Rattle.grids.proofs.Cases.{cond-none}
+use Rattle.ledger.proofs.Refusals.{GoodOpening, open-accepted, render-fits}
 use Rattle.ledger.proofs.Simulation.{canvasOf, stateOf, Simulated, simulated-cases, simulated-opened, rendered-whole, refusal-is, simulated-after}
 use Rattle.ledger.proofs.ScreenCells.{rendered-cell}
 

@@ -33,7 +33,8 @@ use Rattle.ledger.specs.declared.labels.Choice.{Choice}
 use Rattle.ledger.specs.declared.state.Canvas.{Canvas}
 use Rattle.ledger.proofs.DotCounts.{few-dots}
 use Rattle.ledger.proofs.LabelStore.{length-put-label, held-put}
-use Rattle.ledger.proofs.Refusals.{cond-none, Paints, by-draw, by-points, by-dot, GoodOpening, size-within, open-accepted, paints-room, paints-few, marker-valid, print-fits, refusal-by-size}
+use Rattle.grids.proofs.Cases.{cond-none}
+use Rattle.ledger.proofs.Refusals.{Paints, by-draw, by-points, by-dot, GoodOpening, size-within, open-accepted, paints-room, paints-few, marker-valid, print-fits, refusal-by-size}
 use Rattle.ledger.proofs.Composing.{pictured, laidOn, picture-snoc, saved-cell}
 use Rattle.ledger.proofs.Sums.{painted-with-dots, painted-with-layer}
 

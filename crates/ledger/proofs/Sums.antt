@@ -6,7 +6,7 @@ use native.Mathlib.Omega.{arith}
 use lib.ListN.{length, length-append}
 use Rattle.grids.specs.Lists.{foldl}
 use Rattle.grids.specs.Dots.{Inked}
-use Rattle.shapes.specs.Shapes.{flat}
+use Rattle.lines.specs.Painted.{flat}
 use Rattle.ledger.specs.Screen.{ScreenCell}
 use Rattle.ledger.specs.Calls.{Opening, Call, draw, points, dot, layer, marker, print, render}
 use Rattle.ledger.specs.Ledger.{Ledger, opened, paintedIn, withDots, withLayer, addedDots, refusalIn, accepted, Reply, refused, painted, done, shown, reply, unless, replyUnless, ledgerAfter, ledgerReply, ledgerReplies}

@@ -9,9 +9,11 @@ use Rattle.floats.specs.Domain.{inDomain}
 use Rattle.walk.specs.declared.clip.Bounds.{Bounds}
 use Rattle.walk.specs.declared.clip.Segment.{Segment}
 use Rattle.walk.specs.declared.bresenham.Dot.{Dot}
+use Rattle.grids.specs.Lists.{first}
 use Rattle.grids.specs.Markers.{isMarker, isHalfBlock}
 use Rattle.view.specs.Limits.{maxColumns, maxRows, maxDraws, maxPairs, maxLabels, maxText, reset, cellWords, labelWords, screenWords}
-use Rattle.shapes.specs.Shapes.{pairDots, dotAt}
+use Rattle.lines.specs.Painted.{dotAt}
+use Rattle.shapes.specs.Shapes.{pairDots}
 use Rattle.shapes.specs.declared.painters.Pair.{Pair}
 use Rattle.shapes.specs.Drawing.{shapeDots}
 use Rattle.view.specs.declared.point.View.{View}
@@ -39,11 +41,6 @@ pub data Call : Type 0 where
   marker : ℕ → ℕ → Call
   print : Float → Float → List ℕ → Choice → Call
   render : Area → List ℕ → Call
-
--- the first condition that holds gives the refusal's number; 0 is none
-abbrev pub first : List (Bool × ℕ) → ℕ
-first [] = 0
-first (t ∷ ts) = cond (t .0) (t .1) (first ts)
 
 -- ---- the conditions
 

@@ -9,7 +9,7 @@ use Rattle.ledger.specs.Calls.{Opening, Call, draw, points, dot, layer, 
 use Rattle.ledger.specs.Ledger.{Reply, refused, painted, done, shown, unless}
 use Rattle.ledger.specs.Model.{State, openingOf, stateRefusal, orRefusal, refusalOn, openCanvas, dotsOn, labelCells, screenAfter, stateAfter}
 use Rattle.ledger.specs.declared.screen.Area.{Area}
-use Rattle.shapes.specs.declared.painters.Painter.{Painter}
+use Rattle.lines.specs.declared.painter.Painter.{Painter}
 use Rattle.ledger.specs.declared.state.Canvas.{Canvas}
 use Rattle.ledger.specs.declared.state.Answer.{Answer}
 use Rattle.ledger.specs.declared.state.Answer.the-variants.{Refused, Painted, Done, Rendered}

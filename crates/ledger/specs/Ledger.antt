@@ -9,7 +9,7 @@ use Rattle.grids.specs.Dots.{Inked, layerSets}
 use Rattle.grids.specs.Painting.{inked}
 use Rattle.grids.specs.declared.layer.LayerCell.{LayerCell}
 use Rattle.view.specs.Point.{labelPlace, viewOf}
-use Rattle.shapes.specs.Shapes.{flat}
+use Rattle.lines.specs.Painted.{flat}
 use Rattle.ledger.specs.Screen.{ScreenCell, cellOn, layered, Placed, labelled, inArea}
 use Rattle.ledger.specs.Calls.{Opening, Call, draw, points, dot, layer, marker, print, render, refusal, callDots}
 use Rattle.ledger.specs.declared.labels.Choice.{Choice}

@@ -18,7 +18,8 @@ use Rattle.view.specs.Limits.{maxDraws, maxPainted, maxLabels, cellWords, label
 use Rattle.view.specs.Point.{labelPlace, viewOf}
 use Rattle.ledger.specs.Screen.{ScreenCell, cellOn, putOn, orElse, layered, Placed}
 use Rattle.ledger.specs.Labels.{putLabel, heldLabels}
-use Rattle.ledger.specs.Calls.{Opening, Call, draw, points, dot, layer, marker, print, render, first, badSize, badBounds, badColour, refusal, openRefusal, callDots}
+use Rattle.grids.specs.Lists.{first}
+use Rattle.ledger.specs.Calls.{Opening, Call, draw, points, dot, layer, marker, print, render, badSize, badBounds, badColour, refusal, openRefusal, callDots}
 use Rattle.ledger.specs.Ledger.{choiceWord, inkOf, unless, replyUnless, Reply, painted, done, shown}
 use Rattle.view.specs.declared.point.Found.{Found}
 use Rattle.view.specs.declared.point.Found.the-variants.{At, Nowhere}

@@ -3,7 +3,8 @@ use Prim.Native.Nat.{ℕ, zero, suc}
 use mathlib.Core.List.{[], _∷_}
 use lib.Ieee.{Float}
 use Rattle.view.specs.Point.{pointOf, viewOf}
-use Rattle.ledger.specs.Calls.{first, badPoint}
+use Rattle.grids.specs.Lists.{first}
+use Rattle.ledger.specs.Calls.{badPoint}
 use Rattle.ledger.specs.Model.{badCanvas}
 use Rattle.view.specs.declared.point.Found.{Found}
 use Rattle.view.specs.declared.point.Found.the-variants.{At, Nowhere}

@@ -1,4 +1,3 @@
 -- Laws of lists of pairs in bytes.
 pub mod PairLists
-pub mod LentPrefix
 pub mod PairParts

@@ -14,9 +14,9 @@ use Rattle.walk.proofs.Tabulated.{length-tabulate, tabulate-same}
 use Rattle.shapes.specs.declared.painters.Pair.{Pair}
 use Rattle.view.specs.Point.{pointOf}
 use Rattle.shapes.specs.Shapes.{pointDots, pairDots}
-use Rattle.shapes.specs.declared.painters.Painter.{Painter}
+use Rattle.lines.specs.declared.painter.Painter.{Painter}
 use Rattle.view.specs.declared.point.View.{View}
-use Rattle.shapes.proofs.PaintLists.{Painted, painted-then, flat-append}
+use Rattle.lines.proofs.PaintedDots.{Painted, painted-then, flat-append}
 use Rattle.shapes.proofs.DotCounts.{pairs-count}
 use Rattle.ledger.specs.Calls.{badPoint, badPairs}
 use Rattle.lists.specs.Lists.{pairAt, pairsAt}

@@ -3,14 +3,14 @@
 use form::fields::from_bits;
 use form::fields::number64;
 use limits::state::is_bad_point;
+use lines::painter::Painter;
 use pairs::points::paint_pairs;
-use shapes::painters::Painter;
 use shapes::painters::Pair;
 ghost use mathlib.Core.Path.{_≡_};
 ghost use Prim.Native.Nat.{_+_, _-_, _*_, _≤_, min};
 ghost use lib.ListN.{length, take};
 ghost use Rattle.shapes.specs.Shapes.{pairDots};
-ghost use Rattle.shapes.specs.Drawing.{paintedBy};
+ghost use Rattle.lines.specs.Painted.{paintedBy};
 ghost use Rattle.ledger.specs.Calls.{badPairs};
 ghost use Rattle.lists.specs.Lists.{pairAt, pairsAt, listFits, badList, listDots};
 

@@ -5,12 +5,12 @@ use mathlib.Core.Bool.{Bool}
 use mathlib.Core.List.{List}
 use lib.ListN.{length}
 use Rattle.shapes.specs.declared.painters.Pair.{Pair}
-use Rattle.shapes.specs.declared.painters.Painter.{Painter}
+use Rattle.lines.specs.declared.painter.Painter.{Painter}
 use Rattle.ledger.specs.declared.state.Canvas.{Canvas}
 use Rattle.ledger.specs.declared.state.Called.{Called}
 use Rattle.ledger.specs.declared.state.Answer.the-variants.{Refused as is-refused, Painted as is-painted}
 use Rattle.shapes.specs.Shapes.{pairDots}
-use Rattle.shapes.specs.Drawing.{paintedBy}
+use Rattle.lines.specs.Painted.{paintedBy}
 use Rattle.view.specs.Limits.{maxColumns, maxRows, maxDraws, reset}
 use Rattle.ledger.specs.Calls.{points, badPairs, callDots}
 use Rattle.ledger.specs.Model.{refusalOn, drawnCanvas, stateAfter}

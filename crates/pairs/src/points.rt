@@ -7,13 +7,13 @@ use canvas::calls::refused;
 use ledger::state::Called;
 use ledger::state::Canvas;
 use limits::state::is_bad_point;
-use shapes::painters::Painter;
+use lines::painter::Painter;
 use shapes::painters::Pair;
 use shapes::painters::paint_point;
 ghost use mathlib.Core.Path.{_≡_};
 ghost use lib.ListN.{length};
 ghost use Rattle.shapes.specs.Shapes.{pairDots};
-ghost use Rattle.shapes.specs.Drawing.{paintedBy};
+ghost use Rattle.lines.specs.Painted.{paintedBy};
 ghost use Rattle.ledger.specs.Calls.{badPairs, points};
 ghost use Rattle.ledger.specs.Model.{stateAfter};
 ghost use Rattle.ledger.specs.Contracts.{given, calledOn};
@@ -23,13 +23,13 @@ pub fn is_bad_pairs(pairs: &[Pair]) -> bool
     ensures { λ r. ⌜ r ≡ badPairs (now (pairs .entry)) ⌝ }
 {
     let n = pairs.len();
-    let mut i: usize = 0;
-    while i < n {
-        let pair = pairs[i];
+    let mut seen: usize = 0;
+    while seen < n {
+        let pair = pairs[seen];
         if is_bad_point(pair.x, pair.y) {
             return true;
         }
-        i += 1;
+        seen += 1;
     }
     false
 }

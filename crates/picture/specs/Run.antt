@@ -4,7 +4,8 @@ use mathlib.Core.Bool.{Bool, cond, _||_}
 use mathlib.Core.List.{List, [], _∷_}
 use lib.Dec.{ltb}
 use lib.ListN.{length}
-use Rattle.ledger.specs.Calls.{Opening, render, first, openRefusal}
+use Rattle.grids.specs.Lists.{first}
+use Rattle.ledger.specs.Calls.{Opening, render, openRefusal}
 use Rattle.ledger.specs.Ledger.{unless}
 use Rattle.ledger.specs.Model.{State, orRefusal, stateAfter, zeroCanvas}
 use Rattle.ledger.specs.Promise.{openState}

@@ -12,9 +12,10 @@ use borrow.Rule.Slice.PartAt.{part-to-end}
 use Rattle.floats.specs.Arithmetic.{bits}
 use Rattle.floats.specs.Domain.{inDomain}
 use Rattle.floats.proofs.Cases.{lt-or-le, and-true-left, and-true-right}
-use Rattle.shapes.specs.Drawing.{shapeDots, paintedBy}
+use Rattle.lines.specs.Painted.{paintedBy}
+use Rattle.shapes.specs.Drawing.{shapeDots}
 use Rattle.view.specs.Limits.{maxColumns, maxRows, maxDraws, reset}
-use Rattle.shapes.specs.declared.painters.Painter.{Painter}
+use Rattle.lines.specs.declared.painter.Painter.{Painter}
 use Rattle.shapes.specs.declared.painters.Shape.{Shape}
 use Rattle.shapes.specs.declared.painters.Shape.the-variants.{Line, FilledLine, Circle}
 use Rattle.walk.specs.declared.clip.Segment.{Segment}

@@ -1,4 +1,4 @@
--- A turn of a circle's loop on a Braille grid that is ready: a point inside has a dot, whose cell is held, and a point that is not inside has none.
+-- A turn of a circle's loop on a Braille grid with a regular view: a point inside has a dot, and a point that is not inside has none.
 use Prim.Native.Nat.{ℕ, _+_, _*_, _<_}
 use mathlib.Core.Path.{_≡_, refl, sym, _∙_}
 use mathlib.Core.Bool.{true, false}
@@ -11,25 +11,24 @@ use Rattle.angles.specs.Angles.{cosAt, sinAt, angleTable}
 use Rattle.angles.proofs.AnglePlaces.{angle-cos, angle-sin}
 use Rattle.angles.proofs.AngleSizes.{cos-sized, sin-sized}
 use Rattle.walk.specs.declared.bresenham.Dot.{Dot}
-use Rattle.grids.specs.Painting.{cellsHeld}
+use Rattle.grids.specs.Painting.{cellsHeld, brailleDot}
 use Rattle.view.specs.Point.{insideBounds, pointOf, frameOf, regularView}
 use Rattle.view.specs.declared.point.Found.{Found}
 use Rattle.view.specs.declared.point.Found.the-variants.{At, Nowhere}
 use Rattle.view.proofs.DotPlaces.{spot-point}
 use Rattle.shapes.specs.Shapes.{pointDots, angles}
-use Rattle.shapes.specs.Drawing.{paintedBy, ReadyBraille, CircleInDomain}
-use Rattle.shapes.specs.declared.painters.Painter.{Painter}
-use Rattle.shapes.proofs.PaintLists.{Painted, angle-next}
-use Rattle.shapes.proofs.CourseLoops.{brailleCell, braille-below}
-use Rattle.shapes.proofs.DotCounts.{point-inside}
+use Rattle.lines.specs.Painted.{paintedBy}
+use Rattle.shapes.specs.Drawing.{RegularBraille, CircleInDomain}
+use Rattle.lines.specs.declared.painter.Painter.{Painter}
+use Rattle.lines.proofs.PaintedDots.{Painted}
+use Rattle.lines.proofs.CourseLoops.{braille-dot}
+use Rattle.shapes.proofs.PaintLists.{angle-next, table-cos, table-sin}
 use Rattle.shapes.proofs.InsideOrOutside.{point-number, not-inside-nowhere}
 
--- what `set_braille` asks, in a loop that keeps the store's length
-pub dot-held : (p : Painter) (before between : List ℕ) (u w : Float) (d : Dot) → ReadyBraille before p → length between ≡ length before → pointOf (p .view) u w ≡ At (d .column) (d .row)
-    → (p .marker ≡ 1) × (brailleCell (p .columns) d < cellsHeld between (p .columns) (p .rows))
-dot-held p before between u w d ready same e =
-    let i = point-inside (p .view) u w (d .column) (d .row) e in
-    (ready .0, rw same (braille-below (p .columns) (d .column) (d .row) _ _ _ (i .0) (i .1) (ready .1 .1)))
+-- a dot painted in a loop that keeps the store's length, with the cells held counted before it
+pub braille-painted : (p : Painter) (before between after : List ℕ) (end : ℕ) (d : Dot) → RegularBraille p → end ≡ cellsHeld before (p .columns) (p .rows) → length between ≡ length before
+    → after ≡ brailleDot (p .columns) end between (d .column) (d .row) (p .word) → after ≡ paintedBy p between (d ∷ [])
+braille-painted p before between after end d braille held same h = braille-dot p between after end d (rw same held) (braille .0) h
 
 module _ (p : Painter) (x y radius : Float) (k : ℕ) (t : List Float) (e u w : Float) (a : t ≡ angleTable) (l : k < 360)
     (f : u ≡ mulAddOf radius (getD t (k * 2) e) x) (g : w ≡ mulAddOf radius (getD t (k * 2 + 1) e) y) where
@@ -45,7 +44,8 @@ module _ (p : Painter) (x y radius : Float) (k : ℕ) (t : List Float) (e u w : 
 
   module _ (before between after : List ℕ) (m n : ℕ) (h : Painted p before (angles (p .view) x y radius k) m between) where
     found : (o : Found) (i : ℕ) → pointOf (p .view) u w ≡ o → Painted p between (pointDots o) i after → Painted p before (angles (p .view) x y radius (k + 1)) (m + i) after
-    found o i q r = angle-next p x y radius before between after k m i t (frameOf (p .view)) e u w o a l f g refl (sym (spot-point (p .view) u w ∙ q)) h r
+    found o i q r =
+        angle-next p x y radius before between after k m i (frameOf (p .view)) u w o (table-cos k t e radius x u a l f) (table-sin k t e radius y w a l g) refl (sym (spot-point (p .view) u w ∙ q)) h r
 
     pub turn-dot : (d : Dot) → n ≡ m + 1 → pointOf (p .view) u w ≡ At (d .column) (d .row) → after ≡ paintedBy p between (d ∷ []) → Painted p before (angles (p .view) x y radius (k + 1)) n after
     turn-dot d c q r = rw c (found (At (d .column) (d .row)) 1 q (refl, r))

@@ -1,6 +1,6 @@
 -- How many dots a shape has, and that it has at most 160,000 on a canvas of at most 200 by 100 cells:
 -- a walk has no more dots than the larger side, and a filled column no more than the height.
-use mathlib.Core.Path.{_≡_, refl, sym, ap, _∙_, subst}
+use mathlib.Core.Path.{_≡_, refl, sym, ap, _∙_}
 use mathlib.Core.Bool.{Bool, true, false, cond, _||_}
 use mathlib.Core.List.{List, [], _∷_, _++_}
 use Prim.Native.Nat.{ℕ, zero, suc, _+_, _-_, _*_, _≤_, _<_, max, min, zero-le}
@@ -26,7 +26,8 @@ use Rattle.grids.specs.Markers.{dotSize, dotColumns, dotRows, by}
 use Rattle.grids.specs.declared.markers.Size.{Size}
 use Rattle.view.specs.Limits.{maxColumns, maxRows, maxPainted}
 use Rattle.view.specs.Point.{outsideBounds, flatBounds, scaledOf, pointOf, viewOf}
-use Rattle.shapes.specs.Shapes.{flat, pointDots, dotsBetween, clippedLine, linePoints, columnTo, filledDots, filledBetween, clippedFill, filledPoints, segment, rectanglePoints, anglePoint, angles, circlePoints, pairDots}
+use Rattle.lines.specs.Painted.{flat, columnTo}
+use Rattle.shapes.specs.Shapes.{pointDots, dotsBetween, clippedLine, linePoints, filledDots, filledBetween, clippedFill, filledPoints, segment, rectanglePoints, anglePoint, angles, circlePoints, pairDots}
 use Rattle.shapes.specs.Drawing.{shapeDots}
 use Rattle.shapes.specs.declared.painters.Pair.{Pair}
 use Rattle.view.specs.declared.point.View.{View}
@@ -93,9 +94,6 @@ found-inside v x y = go (outsideBounds (v .bounds) x y || flatBounds (v .bounds)
     go : (t : Bool) (c r : ℕ) → c ≤ v .width - 1 → r ≤ v .height - 1 → Inside v (cond t Nowhere (At c r))
     go true c r h k = tt
     go false c r h k = (h, k)
-
-pub point-inside : (v : View) (x y : Float) (c r : ℕ) → pointOf v x y ≡ At c r → (c ≤ v .width - 1) × (r ≤ v .height - 1)
-point-inside v x y c r e = subst (λ (p : Found). Inside v p) e (found-inside v x y)
 
 -- ---- a line and a filled line in a view
 

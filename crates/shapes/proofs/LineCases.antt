@@ -17,14 +17,15 @@ use Rattle.walk.specs.Line.{apart, lineDots}
 use Rattle.walk.proofs.Clipping.{any-side, accepted-ends}
 use Rattle.walk.proofs.LineDots.{length-line}
 use Rattle.view.specs.Point.{outsideBounds, pointOf, frameOf, spotOf}
-use Rattle.shapes.specs.Shapes.{flat, columnTo, dotsBetween, clippedLine, linePoints, filledPoints, segment, rectanglePoints}
+use Rattle.lines.specs.Painted.{flat, columnTo}
+use Rattle.shapes.specs.Shapes.{dotsBetween, clippedLine, linePoints, filledPoints, segment, rectanglePoints}
 use Rattle.view.specs.declared.point.View.{View}
 use Rattle.view.specs.declared.point.Frame.{Frame}
 use Rattle.view.specs.declared.point.Found.{Found}
 use Rattle.view.specs.declared.point.Found.the-variants.{At, Nowhere}
-use Rattle.shapes.specs.declared.painters.Painter.{Painter}
+use Rattle.lines.specs.declared.painter.Painter.{Painter}
 use Rattle.view.proofs.DotPlaces.{Fits, point-fits, spot-point}
-use Rattle.shapes.proofs.PaintLists.{Painted, painted-then}
+use Rattle.lines.proofs.PaintedDots.{Painted, painted-then}
 
 abbrev pub ends : ℕ → ℕ → ℕ → ℕ → Ends
 ends x1 y1 x2 y2 = record { x1 = x1; y1 = y1; x2 = x2; y2 = y2 }

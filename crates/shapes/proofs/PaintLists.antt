@@ -1,94 +1,46 @@
--- Lists of dots painted one after the other: a list in two parts, one more dot of a list by numbers, of a circle and of pairs, and how many dots there are.
-use Prim.Native.Nat.{ℕ, _+_, _-_, _*_, _^_, _≤_, _<_, min, max}
-use mathlib.Core.Path.{_≡_, refl, sym, ap}
-use mathlib.Core.List.{List, [], _∷_, _++_, append-assoc, append-nil}
+-- Dots painted one after the other: one more point of a circle, and of pairs.
+use Prim.Native.Nat.{ℕ, _+_, _*_, _≤_, _<_}
+use mathlib.Core.Path.{_≡_, ap}
+use mathlib.Core.List.{List, append-nil}
 use native.Mathlib.Numerals.{add-one}
 use native.Mathlib.Omega.{arith}
 use lib.Ieee.{Float}
-use lib.ListN.{length, length-append, take, getD}
+use lib.ListN.{length, take, getD}
 use lib.Seq.{take-suc}
 use Rattle.floats.specs.Polyfills.{mulAddOf}
-use Rattle.angles.specs.Angles.{angleTable}
+use Rattle.angles.specs.Angles.{cosAt, sinAt, angleTable}
 use Rattle.angles.proofs.AnglePlaces.{angle-cos, angle-sin}
-use Rattle.walk.specs.Tabulate.{tabulate}
-use Rattle.walk.specs.Line.{apart}
-use Rattle.walk.specs.declared.bresenham.Dot.{Dot}
-use Rattle.walk.proofs.Tabulated.{length-tabulate}
-use Rattle.columns.specs.Columns.{columnDots}
-use Rattle.grids.proofs.Words.{foldl-append}
 use Rattle.view.specs.Point.{pointOf, frameOf, spotOf}
-use Rattle.shapes.specs.Shapes.{flat, dotAt, pointDots, columnTo, anglePoint, angles, circlePoints, pairDots}
-use Rattle.shapes.specs.Drawing.{paintedBy}
-use Rattle.shapes.specs.declared.painters.Pair.{Pair}
 use Rattle.view.specs.declared.point.View.{View}
 use Rattle.view.specs.declared.point.Frame.{Frame}
 use Rattle.view.specs.declared.point.Found.{Found}
 use Rattle.view.specs.declared.point.Found.the-variants.{At, Nowhere}
-use Rattle.shapes.specs.declared.painters.Painter.{Painter}
 use Rattle.view.proofs.DotPlaces.{spot-point}
-
--- the dots, of which there are n, painted over `before` give `after`
-abbrev pub Painted : Painter → List ℕ → List Dot → ℕ → List ℕ → Type 0
-Painted p before dots n after = (n ≡ length dots) × (after ≡ paintedBy p before dots)
-
--- one list, then another
-pub painted-then : (p : Painter) (before between after : List ℕ) (xs ys : List Dot) (m n : ℕ)
-    → Painted p before xs m between → Painted p between ys n after → Painted p before (xs ++ ys) (m + n) after
-painted-then p before between after xs ys m n f g = (
-  rw (f .0, g .0) (sym (length-append xs ys)),
-  rw foldl-append (rw (f .1) at (g .1)),
-)
-
--- ---- one more dot of a list by numbers
-pub painted-next : (p : Painter) (f : ℕ → Dot) (before between after : List ℕ) (k : ℕ) (d : Dot)
-    → d ≡ f k → Painted p before (tabulate k f) k between → after ≡ paintedBy p between (d ∷ []) → Painted p before (tabulate (k + 1) f) (k + 1) after
-painted-next p f before between after k d e g h =
-    rw add-one (rw add-one at (painted-then p before between after (tabulate k f) (f k ∷ []) k 1 g (refl, rw (sym e) h)))
-
--- ---- the lists of each element
-pub flat-append : {A B : Type 0} (f : A → List B) (xs ys : List A) → flat f (xs ++ ys) ≡ flat f xs ++ flat f ys
-flat-append f [] ys = refl
-flat-append f (x ∷ xs) ys = rw (flat-append f xs ys, append-assoc)
-
-pub flat-next : {A B : Type 0} (f : A → List B) (xs : List A) (x : A) → flat f (xs ++ (x ∷ [])) ≡ flat f xs ++ f x
-flat-next f xs x = rw (flat-append f xs (x ∷ []), append-nil)
-
--- ---- a column from its lower row
-column-over : (column row fill low high : ℕ) → low ≡ min row fill → high ≡ max row fill → columnDots column low (high + 1 - low) ≡ columnTo fill (dotAt column row)
-column-over column row fill low high l h =
-    let a : high + 1 - low ≡ apart row fill + 1 = omega arith in
-    rw a (ap (λ (m : ℕ). tabulate (apart row fill + 1) (λ i. dotAt column (m + i))) l)
-
-length-column : (fill : ℕ) (d : Dot) → length (columnTo fill d) ≡ apart (d .row) fill + 1
-length-column fill d = length-tabulate (apart (d .row) fill + 1) (λ k. dotAt (d .column) (min (d .row) fill + k))
-
-pub column-le : (fill : ℕ) (d : Dot) (n : ℕ) → n ≡ length (columnTo fill d) → fill < 2 ^ 32 → d .row < 2 ^ 32 → n ≤ 2 ^ 32
-column-le fill d n e f r = omega (arith, length-column fill d)
-
-pub painted-column : (p : Painter) (before after : List ℕ) (column row fill low high : ℕ) → low ≡ min row fill → high ≡ max row fill
-    → after ≡ paintedBy p before (columnDots column low (high + 1 - low)) → Painted p before (columnTo fill (dotAt column row)) (high - low + 1) after
-painted-column p before after column row fill low high l h g = (
-  omega (arith, length-column fill (dotAt column row)),
-  rw (column-over column row fill low high l h) at g,
-)
-
--- ---- the same dots by another name
-pub painted-same : (p : Painter) (before after : List ℕ) (xs ys : List Dot) (m n : ℕ) → xs ≡ ys → m ≡ n → Painted p before xs m after → Painted p before ys n after
-painted-same p before after xs ys m n d e g = rw (← d, ← e) g
+use Rattle.lines.specs.declared.painter.Painter.{Painter}
+use Rattle.lines.proofs.PaintedDots.{Painted, painted-then, flat-append}
+use Rattle.shapes.specs.Shapes.{pointDots, anglePoint, angles, circlePoints, pairDots}
+use Rattle.shapes.specs.declared.painters.Pair.{Pair}
 
 -- ---- points
 pub point-le : (f : Found) (n : ℕ) → n ≡ length (pointDots f) → n ≤ 1
 point-le (At column row) n e = omega arith
 point-le Nowhere n e = omega arith
 
-pub angle-next : (p : Painter) (x y radius : Float) (before between after : List ℕ) (k m n : ℕ) (t : List Float) (frame : Frame) (d u v : Float) (f : Found)
-    → t ≡ angleTable → k < 360 → u ≡ mulAddOf radius (getD t (k * 2) d) x → v ≡ mulAddOf radius (getD t (k * 2 + 1) d) y → frame ≡ frameOf (p .view) → f ≡ spotOf frame u v
+-- one more point of a circle, by its angle's cosine and sine, and by the table of these
+pub angle-next : (p : Painter) (x y radius : Float) (before between after : List ℕ) (k m n : ℕ) (frame : Frame) (u v : Float) (f : Found)
+    → u ≡ mulAddOf radius (cosAt k) x → v ≡ mulAddOf radius (sinAt k) y → frame ≡ frameOf (p .view) → f ≡ spotOf frame u v
     → Painted p before (angles (p .view) x y radius k) m between → Painted p between (pointDots f) n after
     → Painted p before (angles (p .view) x y radius (k + 1)) (m + n) after
-angle-next p x y radius before between after k m n t frame d u v f a l e g b i h w =
+angle-next p x y radius before between after k m n frame u v f e g b i h w =
     rw add-one
     (painted-then p before between after (angles (p .view) x y radius k) (pointDots (anglePoint (p .view) x y radius k)) m n h
-    (rw (i, b, spot-point, e, g, a, angle-cos k d l, angle-sin k d l) at w))
+    (rw (i, b, spot-point, e, g) at w))
+
+pub table-cos : (k : ℕ) (t : List Float) (d radius x u : Float) → t ≡ angleTable → k < 360 → u ≡ mulAddOf radius (getD t (k * 2) d) x → u ≡ mulAddOf radius (cosAt k) x
+table-cos k t d radius x u a l e = rw (a, angle-cos k d l) at e
+
+pub table-sin : (k : ℕ) (t : List Float) (d radius y v : Float) → t ≡ angleTable → k < 360 → v ≡ mulAddOf radius (getD t (k * 2 + 1) d) y → v ≡ mulAddOf radius (sinAt k) y
+table-sin k t d radius y v a l e = rw (a, angle-sin k d l) at e
 
 pub circle-over : (v : View) (x y radius : Float) (k : ℕ) → k ≡ 360 → angles v x y radius k ≡ circlePoints v x y radius
 unfolding circlePoints
@@ -102,10 +54,3 @@ unfolding pairDots
 pair-next p pairs d before between after k m n l g h =
     rw (add-one, take-suc pairs k d l, flat-append, append-nil)
     (painted-then p before between after (pairDots (p .view) (take k pairs)) (pointDots (pointOf (p .view) (getD pairs k d .x) (getD pairs k d .y))) m n g h)
-
--- ---- no dot, and one
-pub painted-none : (p : Painter) (before : List ℕ) (dots : List Dot) → dots ≡ [] → Painted p before dots 0 before
-painted-none p before dots e = (rw e, rw e)
-
-pub painted-one : (p : Painter) (before after : List ℕ) (dots : List Dot) (d : Dot) → dots ≡ d ∷ [] → after ≡ paintedBy p before (d ∷ []) → Painted p before dots 1 after
-painted-one p before after dots d e g = (rw e, rw e g)

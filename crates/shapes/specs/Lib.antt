@@ -1,4 +1,3 @@
 -- What a reader must believe of shapes.
 pub mod Shapes
 pub mod Drawing
-pub mod HeldWords

@@ -1,5 +1,5 @@
 -- Document 01, 'Shapes': the dots of each shape, in the order in which the Rust paints them.
-use Prim.Native.Nat.{ℕ, zero, suc, _+_, min}
+use Prim.Native.Nat.{ℕ, zero, suc}
 use mathlib.Core.List.{List, [], _∷_, _++_}
 use lib.Ieee.{Float}
 use Rattle.floats.specs.Arithmetic.{_⊕_}
@@ -11,21 +11,13 @@ use Rattle.walk.specs.declared.clip.Clipped.the-variants.{Line, NoLine}
 use Rattle.walk.specs.declared.bresenham.Ends.{Ends}
 use Rattle.walk.specs.declared.bresenham.Dot.{Dot}
 use Rattle.walk.specs.Clip.{clipOf}
-use Rattle.walk.specs.Tabulate.{tabulate}
-use Rattle.walk.specs.Line.{apart, lineDots}
+use Rattle.walk.specs.Line.{lineDots}
 use Rattle.view.specs.Point.{whole, pointOf}
+use Rattle.lines.specs.Painted.{flat, dotAt, columnTo}
 use Rattle.shapes.specs.declared.painters.Pair.{Pair}
 use Rattle.view.specs.declared.point.View.{View}
 use Rattle.view.specs.declared.point.Found.{Found}
 use Rattle.view.specs.declared.point.Found.the-variants.{At, Nowhere}
-
-abbrev pub dotAt : ℕ → ℕ → Dot
-dotAt column row = record { column = column; row = row }
-
--- the lists of f of each element, one after the other
-abbrev pub flat : {A B : Type 0} → (A → List B) → List A → List B
-flat f [] = []
-flat f (x ∷ xs) = f x ++ flat f xs
 
 -- a point is one dot, or none
 abbrev pub pointDots : Found → List Dot
@@ -46,9 +38,6 @@ unfoldable pub linePoints : View → Segment → List Dot
 linePoints v s = clippedLine v (clipOf (v .bounds) s)
 
 -- 'FilledLine: from each dot of the walk its column to the dot row of `fill_to_y` clamped to the bounds, both ends in.'
-abbrev pub columnTo : ℕ → Dot → List Dot
-columnTo fillRow d = tabulate (apart (d .row) fillRow + 1) (λ k. dotAt (d .column) (min (d .row) fillRow + k))
-
 abbrev pub filledDots : Ends → Found → List Dot
 filledDots e Nowhere = []
 filledDots e (At column fillRow) = flat (columnTo fillRow) (lineDots e)

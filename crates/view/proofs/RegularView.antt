@@ -1,17 +1,18 @@
 -- What the test of a view says of it, and that inside the bounds of such a view both sums with a half are numbers from 1/4 to 400: so `dot_inside` tests neither end, and finds no NaN.
-use Prim.Native.Nat.{ℕ, _-_, _*_, _^_, _≤_, _<_}
-use mathlib.Core.Path.{_≡_, refl, sym, _∙_, subst}
+use Prim.Native.Nat.{ℕ, _-_, _^_, _≤_, _<_}
+use mathlib.Core.Path.{_≡_, sym, _∙_, subst}
 use mathlib.Core.Bool.{Bool, true, false, not, _&&_}
 use native.Mathlib.Omega.{arith}
 use lib.Dec.{T, leb}
-use lib.Ieee.{Float, nan, inf, fin, up, down, isNan, eq, lt, toUnsigned}
-use borrow.Author.Tests.{leb-true, not-true, eq-eqb}
+use lib.Ieee.{Float, isNan, eq, lt, toUnsigned}
+use borrow.Author.Tests.{leb-true, not-true}
 use Rattle.floats.specs.Arithmetic.{_⊕_, _⊖_, _⊗_, _⊘_}
 use Rattle.floats.specs.Truncation.{asUnsigned}
 use Rattle.floats.specs.Polyfills.{roundOf, 0·25, 0·5}
 use Rattle.floats.specs.Domain.{inDomain}
-use Rattle.floats.proofs.Cases.{and-true-left, and-true-right, true-not-false, false-not-true}
-use Rattle.floats.proofs.Monotone.{IsNumber, le-not-above}
+use Rattle.floats.proofs.Cases.{and-true-left, and-true-right, true-not-false}
+use Rattle.floats.proofs.Numbers.{IsNumber, number-equal, equal-no-nan}
+use Rattle.floats.proofs.Monotone.{le-not-above}
 use Rattle.floats.proofs.WholePart.{rounded-sum}
 use Rattle.walk.specs.declared.clip.Bounds.{Bounds}
 use Rattle.view.specs.Point.{outsideBounds, flatBounds, insideBounds, scaledOf, pointOf, frameOf, regularView}
@@ -121,22 +122,8 @@ downwards f y = (f .view .bounds .top ⊖ y) ⊗ f .down ⊘ f .height ⊕ 0·5
 abbrev Whole : ℕ → Float → Type 0
 Whole n x = lt x 0·25 ≡ false → toUnsigned 64 x < 65536 → n ≡ toUnsigned 64 x
 
-equal-no-nan : (x : Float) → eq x x ≡ true → T (not (isNan x))
-unfolding eq isNan
-equal-no-nan nan h = false-not-true h
-equal-no-nan (inf s) h = tt
-equal-no-nan (fin s m e) h = tt
-
 pub no-nan : (x y : Float) → eq x x && eq y y ≡ true → T (not (isNan x)) × T (not (isNan y))
 no-nan x y t = (equal-no-nan x (and-true-left (eq x x) (eq y y) t), equal-no-nan y (and-true-right (eq x x) (eq y y) t))
-
-number-equal : (x : Float) → IsNumber x → eq x x ≡ true
-unfolding eq
-number-equal nan h = absurd h
-number-equal (inf true) h = refl
-number-equal (inf false) h = refl
-number-equal (fin true m e) h = rw (eq-eqb (m * up e * down e) (m * up e * down e) refl)
-number-equal (fin false m e) h = rw (eq-eqb (m * up e * down e) (m * up e * down e) refl)
 
 module _ (f : Frame) (x y : Float) where
   pub dot-found : {column row : ℕ} → Whole column (across f x) → Whole row (downwards f y)

@@ -1,7 +1,9 @@
 // From bounds to a dot (Painter::get_point) and to a label's first cell (Canvas::render).
 use floats::casts::as_u16;
+use floats::casts::as_u64;
 use floats::domain::in_domain;
 use floats::methods::abs;
+use floats::polyfills::round;
 use grids::markers::resolution;
 use walk::bresenham::Dot;
 use walk::clip::Bounds;
@@ -13,7 +15,7 @@ ghost use lib.Dec.{T};
 ghost use lib.Ieee.{fin, isNan, le, lt, toUnsigned};
 ghost use Rattle.floats.specs.Polyfills.{0·25};
 ghost use Rattle.view.specs.Limits.{maxColumns, maxRows};
-ghost use Rattle.view.specs.Point.{outsideBounds, flatBounds, pointOf, truncatedOf, insideBounds, labelPlace, viewOf, regularView, frameOf, scaledBy, spotOf};
+ghost use Rattle.view.specs.Point.{outsideBounds, flatBounds, scaledOf, pointOf, truncatedOf, insideBounds, labelPlace, viewOf, regularView, frameOf, scaledBy, spotOf};
 
 // Bounds with a grid's resolution in dots.
 pub struct View {
@@ -150,12 +152,29 @@ pub fn spot(f: Frame, x: f64, y: f64) -> Found
     spot_inside(f, x, y)
 }
 
-// The same of a point by itself.
+// `((distance) * (resolution - 1.0) / width).round() as usize`, at most resolution - 1.
+fn rounded(distance: f64, dots: u16, width: f64) -> u16
+    ensures { λ r. ⌜ r ≡ scaledOf distance dots width ⌝ }
+{
+    let n = as_u64(round(distance * (dots as f64 - 1.0) / width));
+    let most = less_one(dots);
+    if n < most as u64 {
+        return n as u16;
+    }
+    most
+}
+
+// The dot of a point by itself: the formula of get_point as the Rust has it. Painters use a frame.
 pub fn point(v: View, x: f64, y: f64) -> Found
     ensures { λ r. ⌜ r ≡ pointOf v x y ⌝ }
 {
-    let frame = frame_of(v);
-    spot(frame, x, y)
+    let b = v.bounds;
+    if is_outside(b, x, y) | is_flat(b) {
+        return Found::Nowhere;
+    }
+    let column = rounded(x - b.left, v.width, b.right - b.left);
+    let row = rounded(b.top - y, v.height, b.top - b.bottom);
+    Found::At(column, row)
 }
 
 // The whole part of a float from 0.25 on that is below 2^16, of which neither end is tested: below 1 the

@@ -223,6 +223,11 @@ impl Walk {
                 ..self
             };
         }
-        self
+        Walk {
+            at: self.at,
+            offset: self.offset,
+            d: self.d,
+            ..self
+        }
     }
 }

@@ -22,8 +22,8 @@ add-column-mask c = search needs
 column-mask-requires : tie.Need-column-mask-requires
 column-mask-requires c κs = search needs
 
-ink-requires : tie.Need-ink-requires
-ink-requires c κs =
+ink-at-requires : tie.Need-ink-at-requires
+ink-at-requires c κs =
     let a = c .before .before .before .before .before .args in
     rw (c .before .before .before .flat-index .ensures) (omega (arith, mul-le-mul-right {m = a .low / 4} {n = a .high / 4} (a .columns) (omega arith)))
 
@@ -67,8 +67,8 @@ add-column-mask-2 c = search needs
 column-mask-requires-4 : tie.Need-column-mask-requires-4
 column-mask-requires-4 c κs = search needs
 
-ink-requires-2 : tie.Need-ink-requires-2
-ink-requires-2 c κs =
+ink-at-requires-2 : tie.Need-ink-at-requires-2
+ink-at-requires-2 c κs =
     let s = c .before .before .before .before .before .before .before .before in
     let a = s .before .before .args in
     rw (s .flat-index .ensures) (omega (arith, mul-le-mul-right {m = a .low / 4} {n = a .high / 4} (a .columns) (omega arith)))
@@ -80,10 +80,10 @@ ink-down-requires c κs =
     let s = r .before .before .before .before in
     let a = s .before .before .args in
     let e : a .high / 4 * a .columns ≡ (a .low / 4 + 1 + (a .high / 4 - a .low / 4 - 1)) * a .columns = ap (λ (q : ℕ). q * a .columns) (omega arith) in
-    rw (r .index2 .ensures, r .before .index .ensures, s .flat-index .ensures) (omega (arith, m .ink2 .kept .0))
+    rw (r .index2 .ensures, r .before .index .ensures, s .flat-index .ensures) (omega (arith, m .ink-at2 .kept .0))
 
-ink-requires-3 : tie.Need-ink-requires-3
-ink-requires-3 c κs = search needs
+ink-at-requires-3 : tie.Need-ink-at-requires-3
+ink-at-requires-3 c κs = search needs
 
 same-length : tie.Need-same-length
 same-length c = search needs
@@ -92,7 +92,7 @@ returns : tie.Need-returns
 unfolding brailleRows
 returns c =
     let s = c .before .before .before .before in
-    simp (c .before .before .ink .ensures, s .column-mask .ensures, eq-eqb _ _ (s .before .if1 .taken), s .before .before .flat-index .ensures)
+    simp (c .before .before .ink-at .ensures, s .column-mask .ensures, eq-eqb _ _ (s .before .if1 .taken), s .before .before .flat-index .ensures)
 
 same-length-2 : tie.Need-same-length-2
 same-length-2 c = search needs
@@ -114,9 +114,9 @@ returns-2 c =
     (q .before .before .column-mask2 .ensures)
     (q .before .column-mask3 .ensures)
     (q .column-mask4 .ensures)
-    (m .ink2 .ensures)
+    (m .ink-at2 .ensures)
     (d .ink-down .ensures)
-    (c .before .before .ink3 .ensures)
+    (c .before .before .ink-at3 .ensures)
 
 pub ink-braille-spec : {M : Type 1} → statement M
 ink-braille-spec =
@@ -126,7 +126,7 @@ ink-braille-spec =
     sub-column-mask
     add-column-mask
     column-mask-requires
-    ink-requires
+    ink-at-requires
     flat-index-requires-2
     index-requires
     add-below
@@ -138,9 +138,9 @@ ink-braille-spec =
     column-mask-requires-3
     add-column-mask-2
     column-mask-requires-4
-    ink-requires-2
+    ink-at-requires-2
     ink-down-requires
-    ink-requires-3
+    ink-at-requires-3
     same-length
     returns
     same-length-2

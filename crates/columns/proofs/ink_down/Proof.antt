@@ -23,8 +23,8 @@ index-requires c κs = search needs
 loop-holds : tie.Need-loop-holds Inv-loop μ-loop
 loop-holds c = (omega arith, refl, omega arith, refl)
 
-ink-requires : tie.Need-ink-requires Inv-loop μ-loop
-ink-requires c κs =
+ink-at-requires : tie.Need-ink-at-requires Inv-loop μ-loop
+ink-at-requires c κs =
     let l = c .before .before in
     let a = l .before .before .before .args in
     omega (arith, mul-le-mul-right {m = l .loop .k + 1} {n = a .count} (a .columns) (omega arith))
@@ -46,9 +46,9 @@ loop-again c =
     let s = c .before .before in
     let l = s .before .before .before in (
       omega arith,
-      s .ink .kept .0 ∙ l .loop .inv .1,
+      s .ink-at .kept .0 ∙ l .loop .inv .1,
       omega (arith, l .before .index .ensures),
-      down-next _ _ _ _ _ _ (l .loop .inv .3) (l .loop .inv .2) (s .ink .ensures),
+      down-next _ _ _ _ _ _ (l .loop .inv .3) (l .loop .inv .2) (s .ink-at .ensures),
     )
 
 same-length : tie.Need-same-length Inv-loop μ-loop
@@ -67,7 +67,7 @@ ink-down-spec =
     μ-loop
     index-requires
     loop-holds
-    ink-requires
+    ink-at-requires
     add-at
     add-k
     loop-less

@@ -45,14 +45,14 @@ use denote.Triple.Table.{entered, cited}
 use denote.Triple.Walked.{says, needs, Stays, stay-dropped, gave-slice, walkOf, goes-dropped, goes-gave-slice, Walks, ends-at, walked, walk-meets}
 use denote.Exit.{yes}
 use Rattle.shapes.specs.declared.painters.Pair.{Pair}
-use Rattle.shapes.specs.declared.painters.Painter.{Painter}
+use Rattle.lines.specs.declared.painter.Painter.{Painter}
 use Rattle.shapes.specs.Shapes.{pairDots}
-use Rattle.shapes.specs.Drawing.{paintedBy}
-use Rattle.lists.proofs.LentPrefix.{LentPrefix, lends-prefix, prefix-back}
+use Rattle.lines.specs.Painted.{paintedBy}
+use Rattle.pairs.proofs.LentPrefix.{LentPrefix, lends-prefix, prefix-back}
 use Rattle.shapes.proofs.painters.Pair as T
 use Rattle.shapes.proofs.painters.Pair.Laws as T′
-use Rattle.shapes.proofs.painters.Painter as P
-use Rattle.shapes.proofs.painters.Painter.Laws as P′
+use Rattle.lines.proofs.painter.Painter as P
+use Rattle.lines.proofs.painter.Painter.Laws as P′
 use Rattle.pairs.proofs.points.paint_pairs as paint
 use Rattle.pairs.proofs.points.paint_pairs.Symbol as paint-def
 use Rattle.pairs.proofs.points.paint_pairs.Symbol.{name as #paint}

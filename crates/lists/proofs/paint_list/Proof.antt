@@ -1,6 +1,6 @@
 -- A list that fits is painted; of another no dot is.
 use mathlib.Core.Path.{refl, sym, _∙_}
-use Rattle.shapes.proofs.PaintLists.{painted-none, painted-same}
+use Rattle.lines.proofs.PaintedDots.{painted-none, painted-same}
 use Rattle.lists.proofs.PairParts.{fits, dots-fit, none-past}
 use borrow.Author.Needs.{needs}
 use Rattle.lists.proofs.paint_list.Statement.{statement}

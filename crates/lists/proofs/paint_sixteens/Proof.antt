@@ -4,7 +4,7 @@ use mathlib.Core.Path.{_≡_, refl, _∙_}
 use native.Mathlib.Omega.{arith}
 use lib.ListN.{length}
 use Rattle.shapes.specs.Shapes.{pairDots}
-use Rattle.shapes.proofs.PaintLists.{Painted}
+use Rattle.lines.proofs.PaintedDots.{Painted}
 use Rattle.lists.specs.Lists.{pairsAt}
 use Rattle.lists.proofs.PairLists.{list-next, few-painted}
 use borrow.Author.Needs.{needs}

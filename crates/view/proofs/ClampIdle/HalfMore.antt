@@ -1,22 +1,19 @@
 -- Half a one more than a number from -1/4 on is a number from 1/4 on, so `whole_inside` gives its whole part.
 use mathlib.Core.Path.{_≡_, refl, subst, sym}
-use mathlib.Core.Logic.{inl, inr}
-use mathlib.Core.Bool.{Bool, true, false, cond}
-use Prim.Native.Nat.{ℕ, _-_, _*_, _≤_, _<_}
+use mathlib.Core.Bool.{Bool, true, false}
+use Prim.Native.Nat.{ℕ, _*_, _≤_, _<_}
 use native.Mathlib.Nat.{le-trans, le-of-eq, mul-comm, mul-le-mul-right, le-of-mul-le-mul-right}
 use native.Mathlib.Omega.{arith}
 use lib.IntN.{negsuc}
-use lib.Dec.{ltb}
 use lib.Pow.{pow-pos}
 use lib.Ieee.{Float, nan, inf, fin, up, down, add, lt, ofBits}
 use borrow.Author.Tests.{le-ltb}
 use Rattle.floats.specs.Arithmetic.{_⊕_}
-use Rattle.floats.specs.Rounding.{IsUnits, midway, Rounded, Rounds, fraction}
+use Rattle.floats.specs.Rounding.{IsUnits, Finite}
 use Rattle.floats.specs.Polyfills.{0·25, 0·5}
-use Rattle.floats.proofs.Cases.{lt-or-le}
-use Rattle.floats.proofs.Monotone.{IsNumber, add-order}
-use Rattle.floats.proofs.Rounding.Operations.{sum-once}
-use Rattle.view.proofs.ClampIdle.Bounded.{one, quarter}
+use Rattle.floats.proofs.Numbers.{IsNumber, finite-number, add-number}
+use Rattle.floats.proofs.Monotone.{add-order}
+use Rattle.view.proofs.ClampIdle.Bounded.{quarter}
 
 -- finite, and at least -1/4
 abbrev pub FromMinusQuarter : Float → Type 0
@@ -51,24 +48,11 @@ from-quarter (fin false m e) h = refl
 pub sum-from-quarter : (v : Float) → FromMinusQuarter v → lt (v ⊕ 0·5) 0·25 ≡ false
 sum-from-quarter v h = subst (λ (y : Float). lt (v ⊕ 0·5) y ≡ false) minus-quarter (add-order v (fin true 1 (negsuc 1)) 0·5 (from-quarter v h))
 
-rounded-number : (r : Float) (s : Bool) (num den : ℕ) → Rounded r s num den → IsNumber r
-rounded-number r s num den R = elim (lt-or-le (num * one) (midway * den)) [ inl h ↦ finite r _ (R .within h .2) | inr h ↦ subst IsNumber (sym (R .over h)) tt ]
-  where
-    finite : (x : Float) (n : ℕ) → IsUnits x s n → IsNumber x
-    finite nan n h = h
-    finite (inf t) n h = tt
-    finite (fin t m e) n h = tt
+from-finite : (v : Float) → FromMinusQuarter v → Finite v
+from-finite nan h = h
+from-finite (inf s) h = h
+from-finite (fin s m e) h = tt
 
 pub sum-number : (v : Float) → FromMinusQuarter v → IsNumber (v ⊕ 0·5)
 unfolding ofBits
-sum-number nan h = absurd h
-sum-number (inf s) h = absurd h
-sum-number (fin false m e) h = rounded-number (fin false m e ⊕ fin false 1 (negsuc 0)) false _ _ (sum-once (fin false m e) (fin false 1 (negsuc 0)))
-sum-number (fin true m e) h = go (ltb (1 * down e) (m * up e * 2)) (sum-once (fin true m e) (fin false 1 (negsuc 0)))
-  where
-    r : Float
-    r = fin true m e ⊕ fin false 1 (negsuc 0)
-
-    go : (t : Bool) → Rounds r (cond t (fraction true (m * up e * 2 - 1 * down e) (down e * 2)) (fraction false (1 * down e - m * up e * 2) (down e * 2))) → IsNumber r
-    go true R = rounded-number r true _ _ R
-    go false R = rounded-number r false _ _ R
+sum-number v h = add-number v 0·5 (finite-number v (from-finite v h)) tt

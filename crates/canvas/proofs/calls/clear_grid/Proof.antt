@@ -4,8 +4,8 @@ use borrow.Author.Needs.{needs}
 use Rattle.canvas.proofs.calls.clear_grid.Statement.{statement}
 use Rattle.canvas.proofs.calls.clear_grid.Tie as tie
 
-save-reset-requires : tie.Need-save-reset-requires
-save-reset-requires c κs = search needs
+finish-layer-requires : tie.Need-finish-layer-requires
+finish-layer-requires c κs = search needs
 
 reset-requires : tie.Need-reset-requires
 reset-requires c κs = search needs
@@ -14,7 +14,7 @@ same-length : tie.Need-same-length
 same-length c = search needs
 
 returns : tie.Need-returns
-returns c = c .before .before .save-reset .ensures ∙ rw (c .before .before .before .before .if1 .taken)
+returns c = c .before .before .finish-layer .ensures ∙ rw (c .before .before .before .before .if1 .taken)
 
 same-length-2 : tie.Need-same-length-2
 same-length-2 c = search needs
@@ -26,7 +26,7 @@ pub clear-grid-spec : {M : Type 1} → statement M
 clear-grid-spec =
     tie.close
     (tie.spec
-    save-reset-requires
+    finish-layer-requires
     reset-requires
     same-length
     returns

@@ -4,17 +4,17 @@ use borrow.Author.Needs.{needs}
 use Rattle.canvas.proofs.calls.finish.Statement.{statement}
 use Rattle.canvas.proofs.calls.finish.Tie as tie
 
-save-reset-requires : tie.Need-save-reset-requires
-save-reset-requires c κs = search needs
+finish-layer-requires : tie.Need-finish-layer-requires
+finish-layer-requires c κs = search needs
 
 same-length : tie.Need-same-length
 same-length c = search needs
 
 returns : tie.Need-returns
-returns c = c .before .before .save-reset .ensures ∙ rw (c .before .before .before .before .if1 .taken)
+returns c = c .before .before .finish-layer .ensures ∙ rw (c .before .before .before .before .if1 .taken)
 
 returns-2 : tie.Need-returns-2
 returns-2 c = rw (c .if1 .left)
 
 pub finish-spec : {M : Type 1} → statement M
-finish-spec = tie.close (tie.spec save-reset-requires same-length returns returns-2)
+finish-spec = tie.close (tie.spec finish-layer-requires same-length returns returns-2)

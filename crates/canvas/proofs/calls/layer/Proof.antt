@@ -18,8 +18,8 @@ returns c =
     let g = refused-gives (a .canvas) (a .cells .now) (a .labels .now) layer _ _ (layer-by _ _ _ _ (c .before .before .state .ensures)) (c .before .if1 .taken) (c .refused .ensures) in
     (g .called, g .cells)
 
-save-reset-requires : tie.Need-save-reset-requires
-save-reset-requires c κs = search needs
+finish-layer-requires : tie.Need-finish-layer-requires
+finish-layer-requires c κs = search needs
 
 same-length : tie.Need-same-length
 same-length c = search needs
@@ -29,7 +29,7 @@ returns-2 c =
     let u = c .before .before .before .before .before in
     let a = u .before .before .before .before .args in
     let g = accepted-gives (a .canvas) (a .cells .now) (a .labels .now) layer (layer-by _ _ _ _ (sym (u .if1 .left) ∙ u .before .state .ensures)) in
-    (g .called, c .before .before .before .save-reset .ensures ∙ g .cells)
+    (g .called, c .before .before .before .finish-layer .ensures ∙ g .cells)
 
 pub layer-spec : {M : Type 1} → statement M
 layer-spec =
@@ -38,6 +38,6 @@ layer-spec =
     state-requires
     refused-requires
     returns
-    save-reset-requires
+    finish-layer-requires
     same-length
     returns-2)

@@ -15,8 +15,8 @@ add-place c = search needs
 power-requires : tie.Need-power-requires
 power-requires c κs = search needs
 
-set-dot-requires : tie.Need-set-dot-requires
-set-dot-requires c κs = search needs
+ink-within-requires : tie.Need-ink-within-requires
+ink-within-requires c κs = search needs
 
 same-length : tie.Need-same-length
 same-length c = search needs
@@ -24,7 +24,7 @@ same-length c = search needs
 returns : tie.Need-returns
 returns c =
     let b = c .before .before .before .before in
-    simp (c .before .before .set-dot .ensures, b .power .ensures, b .before .flat-index .ensures)
+    simp (c .before .before .ink-within .ensures, b .power .ensures, b .before .flat-index .ensures)
 
 pub paint-braille-spec : {M : Type 1} → statement M
 paint-braille-spec =
@@ -34,6 +34,6 @@ paint-braille-spec =
     mul-place
     add-place
     power-requires
-    set-dot-requires
+    ink-within-requires
     same-length
     returns)

@@ -6,14 +6,14 @@ use Rattle.grids.proofs.painting.paint_plain.Tie as tie
 flat-index-requires : tie.Need-flat-index-requires
 flat-index-requires c κs = search needs
 
-set-dot-requires : tie.Need-set-dot-requires
-set-dot-requires c κs = search needs
+ink-within-requires : tie.Need-ink-within-requires
+ink-within-requires c κs = search needs
 
 same-length : tie.Need-same-length
 same-length c = search needs
 
 returns : tie.Need-returns
-returns c = simp (c .before .before .set-dot .ensures, c .before .before .before .before .flat-index .ensures)
+returns c = simp (c .before .before .ink-within .ensures, c .before .before .before .before .flat-index .ensures)
 
 pub paint-plain-spec : {M : Type 1} → statement M
-paint-plain-spec = tie.close (tie.spec flat-index-requires set-dot-requires same-length returns)
+paint-plain-spec = tie.close (tie.spec flat-index-requires ink-within-requires same-length returns)

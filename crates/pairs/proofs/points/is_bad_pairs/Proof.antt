@@ -271,10 +271,10 @@ module _ {M : Type 1} (𝓤 : URA M) (H : Heap 𝓤) (A : Atoms 𝓤) (W : Given
     turns : (t : ℕ) → ent 𝓤 (Inv t) (Wp 𝓤 H C Λ En code-mir.turn-1 (afterTurn 𝓤 H (Below t) Left))
     turns t = exE 𝓤 (λ (i : ℕ). guard 𝓤 (Facts t i) (⋆ 𝓤 H A (At i))) (λ i. guardE 𝓤 (Facts t i) (⋆ 𝓤 H A (At i)) (λ p. turn-at t i p))
 
-    loops : ent 𝓤 (⋆ 𝓤 H A (At 0)) (Wp 𝓤 H C Λ En (loop code-mir.turn-1) Left)
-    loops =
+    loops : (i : ℕ) → Facts n i → ent 𝓤 (⋆ 𝓤 H A (At i)) (Wp 𝓤 H C Λ En (loop code-mir.turn-1) Left)
+    loops i p =
         via 𝓤 (Inv n)
-        (via 𝓤 (guard 𝓤 (Facts n 0) (⋆ 𝓤 H A (At 0))) (guardI 𝓤 (Facts n 0) (⋆ 𝓤 H A (At 0)) (record { count = omega arith; so-far = refl })) (exI 𝓤 (λ (j : ℕ). guard 𝓤 (Facts n j) (⋆ 𝓤 H A (At j))) 0))
+        (via 𝓤 (guard 𝓤 (Facts n i) (⋆ 𝓤 H A (At i))) (guardI 𝓤 (Facts n i) (⋆ 𝓤 H A (At i)) p) (exI 𝓤 (λ (j : ℕ). guard 𝓤 (Facts n j) (⋆ 𝓤 H A (At j))) i))
         (loop-rule 𝓤 H (W .laws) 𝓣 _<_ (Nat·lt-wfRel .wf) En code-mir.turn-1 Left Inv turns n)
 
   walk : (𝓣 : Tables 𝓤 H) → FmC 𝓤 H (W .laws) (𝓣 .C) → Triple 𝓤 (𝓣 .C #point) (Point 𝓤 H A mem run) → Room T.the-row n
@@ -291,7 +291,8 @@ module _ {M : Type 1} (𝓤 : URA M) (H : Heap 𝓤) (A : Atoms 𝓤) (W : Given
       move ! (21 ∷ []) $ fsplit ! $ move ! (22 ∷ []) $ split ! $
       -- [κ; true; pairs; true; the locals]
       keep ! (16 ∷ 14 ∷ 12 ∷ 10 ∷ 8 ∷ 6 ∷ 4 ∷ 20 ∷ 18 ∷ 22 ∷ 0 ∷ 2 ∷ 23 ∷ 21 ∷ 19 ∷ 17 ∷ 15 ∷ 13 ∷ 11 ∷ 9 ∷ 7 ∷ 5 ∷ []) $
-      by ! (loops 𝓣 fm known g l₀ l₁ l₂ l₃ l₄ l₅ l₆ l₇ l₈ l₉)))))))))))
+      -- the loop begins at the number that the code gives `seen`
+      by ! (loops 𝓣 fm known g l₀ l₁ l₂ l₃ l₄ l₅ l₆ l₇ l₈ l₉ _ (record { count = omega arith; so-far = refl }))))))))))))
 
 module _ {M : Type 1} (𝓤 : URA M) (H : Heap 𝓤) (A : Atoms 𝓤) (W : Given 𝓤 H A) (mem : Memory → SProp 𝓤) (run : Routine → Fun 𝓤) (𝓣 : Tables 𝓤 H) (known : Triple 𝓤 (𝓣 .C #point) (Point 𝓤 H A mem run)) where
   pairs-walks : Walks 𝓤 H A f.ended stayed (WpFn 𝓤 H (𝓣 .C) (𝓣 .Λ) code.function) (f.clauses 𝓤 H A mem run)

@@ -50,14 +50,15 @@ use denote.Triple.Clauses.{ensured, lasts}
 use denote.Triple.Table.{entered, cited}
 use denote.Triple.Walked.{says, Stays, stay-none-slice, stay-slice, stay-none, walkOf, goes-none-slice, goes-slice, goes-none, Walks, ends-at, walked, walk-meets}
 use denote.Exit.{yes}
-use Rattle.shapes.specs.declared.painters.Painter.{Painter}
+use Rattle.lines.specs.declared.painter.Painter.{Painter}
 use Rattle.shapes.specs.declared.painters.Pair.{Pair}
 use Rattle.view.specs.Point.{pointOf}
 use Rattle.shapes.specs.Shapes.{pointDots, pairDots}
 use Rattle.pairs.proofs.LentAgain.{LentAgain, lends-again, comes-back}
-use Rattle.shapes.proofs.PaintLists.{Painted, pair-next, point-le, painted-same}
-use Rattle.shapes.proofs.painters.Painter as P
-use Rattle.shapes.proofs.painters.Painter.Laws as P′
+use Rattle.lines.proofs.PaintedDots.{Painted, painted-same}
+use Rattle.shapes.proofs.PaintLists.{pair-next, point-le}
+use Rattle.lines.proofs.painter.Painter as P
+use Rattle.lines.proofs.painter.Painter.Laws as P′
 use Rattle.shapes.proofs.painters.Pair as T
 use Rattle.shapes.proofs.painters.Pair.Laws as T′
 use Rattle.shapes.proofs.painters.paint_point as point
@@ -157,6 +158,11 @@ module _ {M : Type 1} (𝓤 : URA M) (H : Heap 𝓤) (A : Atoms 𝓤) (W : Given
       -- [cells; pairs]: the parameters, in their order, and the result
       nothing ! $ move ! (2 ∷ 0 ∷ []) $ fjoin ! $ owned ! P.the-row (Is P.the-row) (LL.makes P.the-type P′.the-plain 𝓤 H A) p _ k $ fjoin ! $ move ! (1 ∷ 0 ∷ []) $ fjoin ! $
       owned ! u64 (Is u64) (uint-makes 𝓤 H A W w64) a _ (refl, l) $ move ! (1 ∷ 0 ∷ []) $ done !
+
+  -- of no pair no point is painted
+  none-painted : Painted p cs (pairDots (p .view) (take 0 ys)) 0 cs
+  unfolding pairDots
+  none-painted = (refl, refl)
 
   module _ (𝓣 : Tables 𝓤 H) (fm : FmC 𝓤 H (W .laws) (𝓣 .C)) (known : Triple 𝓤 (𝓣 .C #point) (Point 𝓤 H A mem run)) (g : Room T.the-row n) (h : Room u32 m) (k : Is P.the-row p (brush ∷ []))
       (l₀ l₁ l₂ l₃ l₄ l₅ l₆ l₇ l₈ l₉ l₁₀ l₁₁ l₁₂ l₁₃ l₁₄ : ℕ) where
@@ -324,12 +330,8 @@ module _ {M : Type 1} (𝓤 : URA M) (H : Heap 𝓤) (A : Atoms 𝓤) (W : Given
         exE 𝓤 (λ (a : ℕ). ex 𝓤 (λ (zs : List ℕ). Held t i a zs)) (λ a.
         exE 𝓤 (λ (zs : List ℕ). Held t i a zs) (λ zs. guardE 𝓤 (Facts t i a zs) (⋆ 𝓤 H A (At i a zs)) (λ f. turn-at t i a zs f))))
 
-    at-first : Painted p cs (pairDots (p .view) (take 0 ys)) 0 cs
-    unfolding pairDots
-    at-first = (refl, refl)
-
-    loops : ent 𝓤 (⋆ 𝓤 H A (At 0 0 cs)) (Wp 𝓤 H C Λ En (loop code-mir.turn-1) Left)
-    loops = via 𝓤 (Inv n) (holds n 0 0 cs (record { count = omega arith; few = omega arith; long = refl; so-far = at-first })) (loop-rule 𝓤 H (W .laws) 𝓣 _<_ (Nat·lt-wfRel .wf) En code-mir.turn-1 Left Inv turns n)
+    loops : (i a : ℕ) → Facts n i a cs → ent 𝓤 (⋆ 𝓤 H A (At i a cs)) (Wp 𝓤 H C Λ En (loop code-mir.turn-1) Left)
+    loops i a f = via 𝓤 (Inv n) (holds n i a cs f) (loop-rule 𝓤 H (W .laws) 𝓣 _<_ (Nat·lt-wfRel .wf) En code-mir.turn-1 Left Inv turns n)
 
   walk : (𝓣 : Tables 𝓤 H) → FmC 𝓤 H (W .laws) (𝓣 .C) → Triple 𝓤 (𝓣 .C #point) (Point 𝓤 H A mem run) → Room T.the-row n → Room u32 m → Is P.the-row p (brush ∷ [])
       → ent 𝓤 (onEntry 𝓤 H A f.signature (κ, (κ′, tt)) (q, (q′, tt)) arg at) (WpFn 𝓤 H (𝓣 .C) (𝓣 .Λ) fn (sliceVal (b, o) m ∷ brush ∷ sliceVal (b′, o′) n ∷ []) Post)
@@ -348,7 +350,8 @@ module _ {M : Type 1} (𝓤 : URA M) (H : Heap 𝓤) (A : Atoms 𝓤) (W : Given
       move ! (34 ∷ []) $ split ! $ move ! (1 ∷ []) $ split ! $
       -- [κ′; true; κ; pairs; true; p; cells; the locals]
       keep ! (23 ∷ 21 ∷ 19 ∷ 17 ∷ 15 ∷ 13 ∷ 11 ∷ 9 ∷ 7 ∷ 33 ∷ 31 ∷ 29 ∷ 27 ∷ 25 ∷ 35 ∷ 2 ∷ 0 ∷ 6 ∷ 3 ∷ 36 ∷ 34 ∷ 32 ∷ 30 ∷ 28 ∷ 26 ∷ 24 ∷ 22 ∷ 20 ∷ 18 ∷ 16 ∷ 14 ∷ 12 ∷ 10 ∷ 8 ∷ []) $
-      by ! (loops 𝓣 fm known g h k l₀ l₁ l₂ l₃ l₄ l₅ l₆ l₇ l₈ l₉ l₁₀ l₁₁ l₁₂ l₁₃ l₁₄))))))))))))))))
+      -- the loop begins at the numbers that the code gives `i` and `painted`
+      by ! (loops 𝓣 fm known g h k l₀ l₁ l₂ l₃ l₄ l₅ l₆ l₇ l₈ l₉ l₁₀ l₁₁ l₁₂ l₁₃ l₁₄ _ _ (record { count = omega arith; few = omega arith; long = refl; so-far = none-painted })))))))))))))))))
 
   walk-same : (𝓣 : Tables 𝓤 H) → FmC 𝓤 H (W .laws) (𝓣 .C) → Triple 𝓤 (𝓣 .C #point) (Point 𝓤 H A mem run) → Room T.the-row n → Room u32 m → Is P.the-row p (brush ∷ [])
       → ent 𝓤 (onEntry 𝓤 H A f.signature (κ, (κ′, tt)) (q, (q′, tt)) arg at) (WpFn 𝓤 H (𝓣 .C) (𝓣 .Λ) code.function (sliceVal (b, o) m ∷ brush ∷ sliceVal (b′, o′) n ∷ []) Post)

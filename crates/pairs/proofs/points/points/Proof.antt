@@ -44,7 +44,7 @@ use denote.Triple.Table.{entered, cited}
 use denote.Triple.Walked.{says, Stays, stay-none-slice, stay-slice, stay-none, walkOf, goes-none-slice, goes-slice, goes-none, Walks, ends-at, walked, walk-meets}
 use denote.Exit.{yes}
 use Rattle.shapes.specs.declared.painters.Pair.{Pair}
-use Rattle.shapes.specs.declared.painters.Painter.{Painter}
+use Rattle.lines.specs.declared.painter.Painter.{Painter}
 use Rattle.ledger.specs.declared.state.Canvas.{Canvas}
 use Rattle.ledger.specs.declared.state.Called.{Called}
 use Rattle.ledger.specs.Calls.{points}
@@ -52,8 +52,8 @@ use Rattle.pairs.proofs.LentAgain.{LentAgain, lends-again, comes-back}
 use Rattle.pairs.proofs.Callee.{answers}
 use Rattle.pairs.proofs.PointsSteps.{BadSays, RefusalSays, RefusedSays, PainterSays, PaintSays, DrawnSays, Says, closes-refused, closes-drawn}
 use Rattle.shapes.proofs.painters.Pair as R
-use Rattle.shapes.proofs.painters.Painter as P
-use Rattle.shapes.proofs.painters.Painter.Laws as P′
+use Rattle.lines.proofs.painter.Painter as P
+use Rattle.lines.proofs.painter.Painter.Laws as P′
 use Rattle.ledger.proofs.state.Canvas as T
 use Rattle.ledger.proofs.state.Canvas.Laws as T′
 use Rattle.ledger.proofs.state.Called as D

@@ -1,7 +1,7 @@
 -- The pairs in the bytes are the call's, and what `points` does with a lent list is done with them.
 use Rattle.ledger.specs.Calls.{badPairs, points}
 use Rattle.form.specs.declared.fields.Number.{Number}
-use Rattle.shapes.proofs.PaintLists.{painted-same}
+use Rattle.lines.proofs.PaintedDots.{painted-same}
 use Rattle.lists.specs.Lists.{pairsAt, listFits}
 use Rattle.lists.proofs.PairParts.{bad-fits, dots-fit}
 use Rattle.records.specs.Records.{pointsCall}

@@ -1,58 +1,47 @@
 -- After each turn the points of the angles passed are painted.
 use Prim.Native.Nat.{_-_, _≤_}
-use mathlib.Core.Path.{_≡_, refl, _∙_}
+use mathlib.Core.Path.{_≡_, refl, ap, _∙_}
 use native.Mathlib.Omega.{arith}
 use lib.ListN.{length}
 use borrow.Author.Needs.{needs}
-use Rattle.angles.specs.Angles.{angleTable}
+use Rattle.floats.specs.Polyfills.{mulAddOf, sinOf, cosOf}
 use Rattle.view.specs.Point.{frameOf}
 use Rattle.shapes.specs.Shapes.{angles}
-use Rattle.shapes.proofs.PaintLists.{painted-same, circle-over, point-le, angle-next, Painted}
+use Rattle.lines.proofs.PaintedDots.{Painted, painted-same}
+use Rattle.shapes.proofs.PaintLists.{circle-over, point-le, angle-next}
 use Rattle.shapes.proofs.painters.circle_any.Statement.{statement}
 use Rattle.shapes.proofs.painters.circle_any.Tie as tie
 
 abbrev Inv-loop : tie.InvT-loop
-Inv-loop cells₀ p x y radius table frame painted₀ angle₀ cells painted angle =
-    (angle ≤ 360) × (length cells ≡ length cells₀) × (painted ≤ angle) × Painted p cells₀ (angles (p .view) x y radius angle) painted cells × (table ≡ angleTable) × (frame ≡ frameOf (p .view))
+Inv-loop cells₀ p x y radius frame painted₀ degree₀ cells painted degree =
+    (degree ≤ 360) × (length cells ≡ length cells₀) × (painted ≤ degree) × Painted p cells₀ (angles (p .view) x y radius degree) painted cells × (frame ≡ frameOf (p .view))
 
 abbrev μ-loop : tie.MeasureT-loop
-μ-loop cells₀ p x y radius table frame painted₀ angle₀ cells painted angle = 360 - angle
+μ-loop cells₀ p x y radius frame painted₀ degree₀ cells painted degree = 360 - degree
 
 at-most-one : (c : tie.After-slice-known2 Inv-loop μ-loop) → c .before .before .paint-found .result ≤ 1
 at-most-one c = let s = c .before .before in point-le (s .before .before .spot .result) _ (s .paint-found .ensures .0)
-
-angle-table-requires : tie.Need-angle-table-requires Inv-loop μ-loop
-angle-table-requires c κs = search needs
 
 frame-of-requires : tie.Need-frame-of-requires Inv-loop μ-loop
 frame-of-requires c κs = search needs
 
 loop-holds : tie.Need-loop-holds Inv-loop μ-loop
-loop-holds c = (omega arith, refl, omega arith, (refl, refl), c .before .angle-table .ensures, c .frame-of .ensures)
+loop-holds c = (omega arith, refl, omega arith, (refl, refl), c .frame-of .ensures)
 
-mul-mul-add : tie.Need-mul-mul-add Inv-loop μ-loop
-mul-mul-add c = search needs
+int-to-float-to-radians : tie.Need-int-to-float-to-radians Inv-loop μ-loop
+int-to-float-to-radians c = search needs
 
-mul-mul-add-2 : tie.Need-mul-mul-add-2 Inv-loop μ-loop
-mul-mul-add-2 c = search needs
+to-radians-requires : tie.Need-to-radians-requires Inv-loop μ-loop
+to-radians-requires c κs = search needs
 
-array-read-mul-add : tie.Need-array-read-mul-add Inv-loop μ-loop
-array-read-mul-add c = search needs
+cos-requires : tie.Need-cos-requires Inv-loop μ-loop
+cos-requires c κs = search needs
 
 mul-add-requires : tie.Need-mul-add-requires Inv-loop μ-loop
 mul-add-requires c κs = search needs
 
-mul-mul-add-3 : tie.Need-mul-mul-add-3 Inv-loop μ-loop
-mul-mul-add-3 c = search needs
-
-add-mul-add : tie.Need-add-mul-add Inv-loop μ-loop
-add-mul-add c = search needs
-
-mul-mul-add-4 : tie.Need-mul-mul-add-4 Inv-loop μ-loop
-mul-mul-add-4 c = search needs
-
-array-read-mul-add-2 : tie.Need-array-read-mul-add-2 Inv-loop μ-loop
-array-read-mul-add-2 c = search needs
+sin-requires : tie.Need-sin-requires Inv-loop μ-loop
+sin-requires c κs = search needs
 
 mul-add-requires-2 : tie.Need-mul-add-requires-2 Inv-loop μ-loop
 mul-add-requires-2 c κs = search needs
@@ -76,16 +65,20 @@ loop-again : tie.Need-loop-again Inv-loop μ-loop
 loop-again c =
     let s = c .before .before in
     let q = s .before .before in
-    let m = q .before in
-    let h = m .before .before .before in
-    let a = h .before .before .before .before .args in (
-      omega arith,
+    let y = q .before in
+    let x = y .before .before in
+    let r = x .before .before .to-radians in
+    let l = x .before .before .before .before in
+    let h = l .before in
+    let a = h .before .before .before .args in (
+      omega (arith, l .loop-test .taken),
       s .paint-found .kept .0 ∙ h .loop .inv .1,
-      omega (arith, at-most-one c),
-      angle-next (a .p) (a .x) (a .y) (a .radius) _ _ _ (h .loop .degree) _ _ _ _ _ _ _ _ (h .loop .inv .4) (omega arith)
-          (m .before .mul-add .ensures) (m .mul-add2 .ensures) (h .loop .inv .5) (q .spot .ensures) (h .loop .inv .3) (s .paint-found .ensures),
+      omega (arith, at-most-one c, h .loop .inv .2),
+      angle-next (a .p) (a .x) (a .y) (a .radius) _ _ _ (h .loop .degree) _ _ _ _ _ _
+          (x .mul-add .ensures ∙ ap (λ z. mulAddOf (a .radius) z (a .x)) (x .before .cos .ensures ∙ ap cosOf (r .ensures)))
+          (y .mul-add2 .ensures ∙ ap (λ z. mulAddOf (a .radius) z (a .y)) (y .before .sin .ensures ∙ ap sinOf (r .ensures)))
+          (h .loop .inv .4) (q .spot .ensures) (h .loop .inv .3) (s .paint-found .ensures),
       h .loop .inv .4,
-      h .loop .inv .5,
     )
 
 same-length : tie.Need-same-length Inv-loop μ-loop
@@ -93,8 +86,9 @@ same-length c = search needs
 
 returns : tie.Need-returns Inv-loop μ-loop
 returns c =
-    let a = c .before .before .before .before .before .args in
-    painted-same (a .p) _ _ _ _ _ _ (circle-over (a .p .view) (a .x) (a .y) (a .radius) (c .before .loop .degree) (omega arith)) refl (c .before .loop .inv .3)
+    let h = c .before in
+    let a = h .before .before .before .args in
+    painted-same (a .p) _ _ _ _ _ _ (circle-over (a .p .view) (a .x) (a .y) (a .radius) (h .loop .degree) (omega arith)) refl (h .loop .inv .3)
 
 pub circle-any-spec : {M : Type 1} → statement M
 circle-any-spec =
@@ -102,17 +96,13 @@ circle-any-spec =
     (tie.spec
     Inv-loop
     μ-loop
-    angle-table-requires
     frame-of-requires
     loop-holds
-    mul-mul-add
-    mul-mul-add-2
-    array-read-mul-add
+    int-to-float-to-radians
+    to-radians-requires
+    cos-requires
     mul-add-requires
-    mul-mul-add-3
-    add-mul-add
-    mul-mul-add-4
-    array-read-mul-add-2
+    sin-requires
     mul-add-requires-2
     spot-requires
     paint-found-requires

@@ -1,35 +1,38 @@
--- After each turn the points of the angles passed are painted: each is inside, so that it has a dot, whose cell is held. The store keeps its length, so that all cells stay held.
+-- After each turn the points of the angles passed are painted: each is inside, so that it has a dot. The store keeps its length, and so the number of cells held.
 use Prim.Native.Nat.{_-_, _≤_}
 use mathlib.Core.Path.{_≡_, refl, _∙_}
 use native.Mathlib.Omega.{arith}
 use lib.ListN.{length}
 use borrow.Author.Needs.{needs}
 use Rattle.angles.specs.Angles.{angleTable}
+use Rattle.grids.specs.Painting.{cellsHeld}
 use Rattle.view.specs.Point.{frameOf, pointOf}
 use Rattle.view.specs.declared.point.Found.the-variants.{At}
 use Rattle.shapes.specs.Shapes.{angles}
-use Rattle.shapes.proofs.PaintLists.{Painted, painted-same, circle-over}
-use Rattle.shapes.proofs.CircleTurns.{dot-held, turn-inside, turn-dot}
+use Rattle.lines.proofs.PaintedDots.{Painted, painted-same}
+use Rattle.shapes.proofs.PaintLists.{circle-over}
+use Rattle.shapes.proofs.CircleTurns.{braille-painted, turn-inside, turn-dot}
 use Rattle.shapes.proofs.painters.circle_inside.Statement.{statement}
 use Rattle.shapes.proofs.painters.circle_inside.Tie as tie
 
 abbrev Inv-loop : tie.InvT-loop
-Inv-loop cells₀ p x y radius table frame angle₀ cells angle =
+Inv-loop cells₀ p x y radius table frame end angle₀ cells angle =
     (angle ≤ 360) × (length cells ≡ length cells₀) × Painted p cells₀ (angles (p .view) x y radius angle) angle cells × (table ≡ angleTable) × (frame ≡ frameOf (p .view))
+    × (end ≡ cellsHeld cells₀ (p .columns) (p .rows))
 
 abbrev μ-loop : tie.MeasureT-loop
-μ-loop cells₀ p x y radius table frame angle₀ cells angle = 360 - angle
+μ-loop cells₀ p x y radius table frame end angle₀ cells angle = 360 - angle
 
 -- the dot of an angle's point
 found : (c : tie.After-dot-inside Inv-loop μ-loop)
-    → let d = c .dot-inside .result in let m = c .before in let a = m .before .before .before .before .before .before .before .args in
+    → let d = c .dot-inside .result in let m = c .before in let a = m .before .before .before .before .before .before .before .before .before .args in
     pointOf (a .p .view) (m .before .mul-add .result) (m .mul-add2 .result) ≡ At (d .column) (d .row)
 found c =
     let m = c .before in
     let h = m .before .before .before in
-    let s = h .before .before .before .before in
+    let s = h .before .before .before .before .before .before in
     let a = s .args in
-    c .dot-inside .ensures (a .p .view) (h .loop .inv .4) (s .pre .0 .1 .0)
+    c .dot-inside .ensures (a .p .view) (h .loop .inv .4) (s .pre .0 .1)
     (turn-inside (a .p) (a .x) (a .y) (a .radius) (h .loop .angle) _ _ _ _ (h .loop .inv .3) (omega arith) (m .before .mul-add .ensures) (m .mul-add2 .ensures) (s .pre .1 (h .loop .angle) (omega arith)))
 
 angle-table-requires : tie.Need-angle-table-requires Inv-loop μ-loop
@@ -38,8 +41,13 @@ angle-table-requires c κs = search needs
 frame-of-requires : tie.Need-frame-of-requires Inv-loop μ-loop
 frame-of-requires c κs = search needs
 
+cells-held-requires : tie.Need-cells-held-requires Inv-loop μ-loop
+cells-held-requires c κs = search needs
+
 loop-holds : tie.Need-loop-holds Inv-loop μ-loop
-loop-holds c = (omega arith, refl, (refl, refl), c .before .angle-table .ensures, c .frame-of .ensures)
+loop-holds c =
+    let f = c .before .before in
+    (omega arith, refl, (refl, refl), f .before .angle-table .ensures, f .frame-of .ensures, c .cells-held .ensures)
 
 mul-mul-add : tie.Need-mul-mul-add Inv-loop μ-loop
 mul-mul-add c = search needs
@@ -71,12 +79,8 @@ mul-add-requires-2 c κs = search needs
 dot-inside-requires : tie.Need-dot-inside-requires Inv-loop μ-loop
 dot-inside-requires c κs = search needs
 
-set-braille-requires : tie.Need-set-braille-requires Inv-loop μ-loop
-set-braille-requires c κs =
-    let q = c .before in
-    let h = q .before .before .before .before in
-    let s = h .before .before .before .before in
-    dot-held (s .args .p) (s .args .cells .now) (h .loop .cells) _ _ (q .dot-inside .result) (s .pre .0) (h .loop .inv .1) (found q)
+paint-braille-requires : tie.Need-paint-braille-requires Inv-loop μ-loop
+paint-braille-requires c κs = search needs
 
 add-angle : tie.Need-add-angle Inv-loop μ-loop
 add-angle c = search needs
@@ -90,13 +94,16 @@ loop-again c =
     let q = b .before .before in
     let m = q .before in
     let h = m .before .before .before in
-    let a = h .before .before .before .before .args in (
+    let s = h .before .before .before .before .before .before in
+    let a = s .args in (
       omega arith,
-      b .set-braille .kept .0 ∙ h .loop .inv .1,
+      b .paint-braille .kept .0 ∙ h .loop .inv .1,
       turn-dot (a .p) (a .x) (a .y) (a .radius) (h .loop .angle) _ _ _ _ (h .loop .inv .3) (omega arith) (m .before .mul-add .ensures) (m .mul-add2 .ensures)
-          (a .cells .now) _ _ _ _ (h .loop .inv .2) (q .dot-inside .result) refl (found q) (b .set-braille .ensures),
+          (a .cells .now) _ _ _ _ (h .loop .inv .2) (q .dot-inside .result) refl (found q)
+          (braille-painted (a .p) (a .cells .now) _ _ _ (q .dot-inside .result) (s .pre .0) (h .loop .inv .5) (h .loop .inv .1) (b .paint-braille .ensures)),
       h .loop .inv .3,
       h .loop .inv .4,
+      h .loop .inv .5,
     )
 
 same-length : tie.Need-same-length Inv-loop μ-loop
@@ -105,7 +112,7 @@ same-length c = search needs
 returns : tie.Need-returns Inv-loop μ-loop
 returns c =
     let h = c .before in
-    let a = h .before .before .before .before .args in
+    let a = h .before .before .before .before .before .before .args in
     let g : h .loop .angle ≡ 360 = omega arith in
     painted-same (a .p) _ _ _ _ _ _ (circle-over (a .p .view) (a .x) (a .y) (a .radius) (h .loop .angle) g) g (h .loop .inv .2)
 
@@ -117,6 +124,7 @@ circle-inside-spec =
     μ-loop
     angle-table-requires
     frame-of-requires
+    cells-held-requires
     loop-holds
     mul-mul-add
     mul-mul-add-2
@@ -128,7 +136,7 @@ circle-inside-spec =
     array-read-mul-add-2
     mul-add-requires-2
     dot-inside-requires
-    set-braille-requires
+    paint-braille-requires
     add-angle
     loop-less
     loop-again

@@ -1,20 +1,24 @@
--- By the marker, the view, the store and the domain one of the three loops.
+-- By the marker, the view and the domain one of the three loops.
 use mathlib.Core.Path.{sym, _∙_}
 use borrow.Author.Needs.{needs}
+use borrow.Author.Tests.{eqb-true}
 use Rattle.grids.proofs.Cases.{both}
-use Rattle.shapes.specs.Drawing.{ReadyBraille, CircleInDomain}
+use Rattle.shapes.specs.Drawing.{RegularBraille, CircleInDomain}
 use Rattle.shapes.proofs.painters.paint_circle.Statement.{statement}
 use Rattle.shapes.proofs.painters.paint_circle.Tie as tie
 
 -- after the first test
-known : (c : tie.Then1) → let a = c .before .before .before .before .before .before .before .args in ReadyBraille (a .cells .now) (a .p) × CircleInDomain (a .x) (a .y) (a .radius)
+known : (c : tie.Then1) → let a = c .before .before .before .before .before .before .before .args in RegularBraille (a .p) × CircleInDomain (a .x) (a .y) (a .radius)
 known c =
-    let r = c .before in
-    let d = r .before .before in
+    let r = c .before .before in
+    let d = r .before in
     let t = both _ _ (c .if1 .taken) in
-    let u = both _ _ (t .0) in
-    let v = both _ _ (u .0) in
-    (r .is-ready-braille .ensures (t .1), (sym (d .before .before .in-domain .ensures) ∙ v .0, (sym (d .before .in-domain2 .ensures) ∙ v .1, sym (d .in-domain3 .ensures) ∙ u .1)))
+    let u = both _ _ (t .1) in
+    let w = both _ _ (u .0) in
+    let z = both _ _ (w .0) in (
+      (eqb-true _ _ (t .0), sym (r .is-regular .ensures) ∙ u .1),
+      (sym (d .before .before .in-domain .ensures) ∙ z .0, (sym (d .before .in-domain2 .ensures) ∙ z .1, sym (d .in-domain3 .ensures) ∙ w .1)),
+    )
 
 in-domain-requires : tie.Need-in-domain-requires
 in-domain-requires c κs = search needs
@@ -25,8 +29,8 @@ in-domain-requires-2 c κs = search needs
 in-domain-requires-3 : tie.Need-in-domain-requires-3
 in-domain-requires-3 c κs = search needs
 
-is-ready-braille-requires : tie.Need-is-ready-braille-requires
-is-ready-braille-requires c κs = search needs
+is-regular-requires : tie.Need-is-regular-requires
+is-regular-requires c κs = search needs
 
 is-circle-inside-requires : tie.Need-is-circle-inside-requires
 is-circle-inside-requires c κs = known (c .before) .1
@@ -68,7 +72,7 @@ paint-circle-spec =
     in-domain-requires
     in-domain-requires-2
     in-domain-requires-3
-    is-ready-braille-requires
+    is-regular-requires
     is-circle-inside-requires
     circle-inside-requires
     same-length

@@ -8,7 +8,7 @@ use Rattle.walk.specs.Clip.{clipOf}
 use Rattle.view.specs.Point.{pointOf}
 use Rattle.view.specs.declared.point.Found.{Found}
 use Rattle.view.specs.declared.point.Found.the-variants.{At}
-use Rattle.shapes.proofs.PaintLists.{painted-none, painted-same}
+use Rattle.lines.proofs.PaintedDots.{painted-none, painted-same}
 use Rattle.shapes.proofs.LineCases.{filled-clipped, filled-no-first, filled-no-second, filled-no-row, filled-between, found-is, found-first, found-second}
 use Rattle.shapes.proofs.painters.paint_filled_line.Statement.{statement}
 use Rattle.shapes.proofs.painters.paint_filled_line.Tie as tie

@@ -2,7 +2,7 @@
 use mathlib.Core.Path.{ap}
 use borrow.Author.Needs.{needs}
 use Rattle.shapes.specs.Shapes.{pointDots}
-use Rattle.shapes.proofs.PaintLists.{painted-none, painted-one}
+use Rattle.lines.proofs.PaintedDots.{painted-none, painted-one}
 use Rattle.shapes.proofs.painters.paint_found.Statement.{statement}
 use Rattle.shapes.proofs.painters.paint_found.Tie as tie
 

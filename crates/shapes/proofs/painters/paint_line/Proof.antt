@@ -6,7 +6,7 @@ use Rattle.walk.specs.declared.clip.Clipped.the-variants.{Line}
 use Rattle.walk.specs.Clip.{clipOf}
 use Rattle.view.specs.Point.{pointOf}
 use Rattle.view.specs.declared.point.Found.the-variants.{At}
-use Rattle.shapes.proofs.PaintLists.{painted-none, painted-same}
+use Rattle.lines.proofs.PaintedDots.{painted-none, painted-same}
 use Rattle.shapes.proofs.LineCases.{line-clipped, line-no-first, line-no-second, line-between, found-first, found-second}
 use Rattle.shapes.proofs.painters.paint_line.Statement.{statement}
 use Rattle.shapes.proofs.painters.paint_line.Tie as tie

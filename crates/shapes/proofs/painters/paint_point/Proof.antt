@@ -1,13 +1,16 @@
--- The dot that `point` finds.
-use mathlib.Core.Path.{refl, ap}
+-- The dot that is found in the view's frame, painted.
+use mathlib.Core.Path.{ap, _∙_}
 use borrow.Author.Needs.{needs}
-use Rattle.shapes.specs.Shapes.{pointDots}
-use Rattle.shapes.proofs.PaintLists.{painted-same}
+use Rattle.view.specs.Point.{spotOf}
+use Rattle.view.proofs.DotPlaces.{spot-point}
 use Rattle.shapes.proofs.painters.paint_point.Statement.{statement}
 use Rattle.shapes.proofs.painters.paint_point.Tie as tie
 
-point-requires : tie.Need-point-requires
-point-requires c κs = search needs
+frame-of-requires : tie.Need-frame-of-requires
+frame-of-requires c κs = search needs
+
+spot-requires : tie.Need-spot-requires
+spot-requires c κs = search needs
 
 paint-found-requires : tie.Need-paint-found-requires
 paint-found-requires c κs = search needs
@@ -17,9 +20,11 @@ same-length c = search needs
 
 returns : tie.Need-returns
 returns c =
-    let s = c .before .before in
-    let t = s .before .before in
-    painted-same (t .before .before .args .p) _ _ _ _ _ _ (ap pointDots (t .point .ensures)) refl (s .paint-found .ensures)
+    let d = c .before .before in
+    let q = d .before .before in
+    let f = q .before in
+    let a = f .before .before .args in
+    rw (q .spot .ensures ∙ ap (λ z. spotOf z (a .x) (a .y)) (f .frame-of .ensures) ∙ spot-point (a .p .view) (a .x) (a .y)) at (d .paint-found .ensures)
 
 pub paint-point-spec : {M : Type 1} → statement M
-paint-point-spec = tie.close (tie.spec point-requires paint-found-requires same-length returns)
+paint-point-spec = tie.close (tie.spec frame-of-requires spot-requires paint-found-requires same-length returns)

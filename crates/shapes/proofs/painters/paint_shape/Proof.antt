@@ -2,7 +2,7 @@
 use mathlib.Core.Path.{refl, sym, ap}
 use borrow.Author.Needs.{needs}
 use Rattle.shapes.specs.Drawing.{shapeDots}
-use Rattle.shapes.proofs.PaintLists.{painted-same}
+use Rattle.lines.proofs.PaintedDots.{painted-same}
 use Rattle.shapes.proofs.painters.paint_shape.Statement.{statement}
 use Rattle.shapes.proofs.painters.paint_shape.Tie as tie
 

@@ -1,21 +1,47 @@
--- A point in the view's own frame.
-use mathlib.Core.Path.{ap, _∙_}
+-- Outside or flat, or the two parts of the formula.
+use Prim.Native.Nat.{ℕ}
+use mathlib.Core.Path.{_≡_}
+use mathlib.Core.Bool.{Bool, true, false, _||_}
+use lib.Ieee.{Float}
 use borrow.Author.Needs.{needs}
-use Rattle.view.specs.Point.{spotOf}
-use Rattle.view.proofs.DotPlaces.{spot-point}
+use Rattle.floats.specs.Arithmetic.{_⊖_}
+use Rattle.view.specs.declared.point.View.{View}
+use Rattle.view.specs.declared.point.Found.{Found}
+use Rattle.view.specs.declared.point.Found.the-variants.{At, Nowhere}
+use Rattle.view.specs.Point.{outsideBounds, flatBounds, scaledOf, pointOf}
 use Rattle.view.proofs.point.point.Statement.{statement}
 use Rattle.view.proofs.point.point.Tie as tie
 
-frame-of-requires : tie.Need-frame-of-requires
-frame-of-requires c κs = search needs
+module _ (v : View) (x y : Float) (o f : Bool) (d : o ≡ outsideBounds (v .bounds) x y) (e : f ≡ flatBounds (v .bounds)) where
+  nowhere : o || f ≡ true → Nowhere ≡ pointOf v x y
+  unfolding pointOf
+  nowhere t = rw (← d, ← e, t)
 
-spot-requires : tie.Need-spot-requires
-spot-requires c κs = search needs
+  found : o || f ≡ false → (column row : ℕ) → column ≡ scaledOf (x ⊖ v .bounds .left) (v .width) (v .bounds .right ⊖ v .bounds .left)
+      → row ≡ scaledOf (v .bounds .top ⊖ y) (v .height) (v .bounds .top ⊖ v .bounds .bottom) → At column row ≡ pointOf v x y
+  unfolding pointOf
+  found t column row g h = rw (← d, ← e, t, ← g, ← h)
+
+is-outside-requires : tie.Need-is-outside-requires
+is-outside-requires c κs = search needs
+
+is-flat-requires : tie.Need-is-flat-requires
+is-flat-requires c κs = search needs
 
 returns : tie.Need-returns
-returns c =
-    let a = c .before .before .args in
-    c .spot .ensures ∙ ap (λ f. spotOf f (a .x) (a .y)) (c .before .frame-of .ensures) ∙ spot-point (a .v) (a .x) (a .y)
+returns c = nowhere _ _ _ _ _ (c .before .before .is-outside .ensures) (c .before .is-flat .ensures) (c .if1 .taken)
+
+rounded-requires : tie.Need-rounded-requires
+rounded-requires c κs = search needs
+
+rounded-requires-2 : tie.Need-rounded-requires-2
+rounded-requires-2 c κs = search needs
+
+returns-2 : tie.Need-returns-2
+returns-2 c =
+    let r = c .before .before .before in
+    let t = r .before .before .before in
+    found _ _ _ _ _ (t .before .before .is-outside .ensures) (t .before .is-flat .ensures) (t .if1 .left) _ _ (r .rounded .ensures) (c .rounded2 .ensures)
 
 pub point-spec : {M : Type 1} → statement M
-point-spec = tie.close (tie.spec frame-of-requires spot-requires returns)
+point-spec = tie.close (tie.spec is-outside-requires is-flat-requires returns rounded-requires rounded-requires-2 returns-2)

@@ -49,7 +49,10 @@ returns c =
     (from-bits (c .before .next-decision .result) (c .before .next-decision .ok) ∙ rw (same s) at (c .before .next-decision .ensures))
 
 returns-2 : tie.Need-returns-2
-returns-2 c = step-ended (c .before .before .before .before .before .args .self) (sym (tested (c .before)) ∙ c .if1 .left)
+returns-2 c =
+    let t = c .before in
+    let s = t .before .before .before .before in
+    rw (same s) (step-ended (s .before .args .self) (sym (tested (t .before)) ∙ t .if1 .left))
 
 pub step-spec : {M : Type 1} → statement M
 step-spec =
