@@ -1,11 +1,11 @@
 //! What the build shows of itself before it judges anything: `judge --test`.
-use ratatui_core::style::Color;
+use ratatui_core::style::{Color, RESET};
 use ratatui_core::symbols::Marker;
 use ratatui_core::symbols::braille::BRAILLE;
 use ratatui_core::symbols::pixel::{QUADRANTS, SEXTANTS};
 
 use crate::picture::{Call, Opening, Picture};
-use crate::{answer, counted, draw, plain};
+use crate::{answer, calls, counted, draw, plain};
 
 pub fn all() -> Vec<(&'static str, bool)> {
     vec![
@@ -15,6 +15,7 @@ pub fn all() -> Vec<(&'static str, bool)> {
         ("bench sample: symbols of four patterns", bench_symbols()),
         ("bench sample: 9 outside a HalfBlock grid, where the Rust panics", half_block_panics()),
         ("document 01's example of the program `layout`", example()),
+        ("bench samples as a call list, on an area of a larger screen", samples_as_list()),
     ]
 }
 
@@ -76,4 +77,28 @@ fn example() -> bool {
     file.extend(one);
     file.extend([0xFF, 0x00, 0x00, 0x00]);
     answer(&file) == "cells 2 1 painted 2\n0 0 2022 255 16777216\n1 0 2022 255 16777216\n"
+}
+
+/// Document 01's samples as a list: a dot past the row's end on an area of a larger screen, and refusals.
+fn samples_as_list() -> bool {
+    let step = |op: u8, a: u8, n: u32, m: u32, k: u32, words: [u64; 6]| {
+        let mut bytes = vec![op, a, 0, 0];
+        [n, m, k].iter().for_each(|number| bytes.extend(number.to_le_bytes()));
+        words.iter().for_each(|word| bytes.extend(word.to_le_bytes()));
+        bytes
+    };
+    let open = |marker| step(0x02, marker, RESET, 0x20, 3 + (2 << 16), [0; 6]);
+    let dot = |column, row| step(0x0A, 0, 255, 0, 0, [column, row, 0, 0, 0, 0]);
+    let lend = step(0x01, 0, 0, 0, 0, [6, 64, 0, 12, 0, 0]);
+    let render = |columns, rows| step(0x0E, 0, 0, 0, 0, [columns, rows, 1, 1, 0, 0]);
+    let parts = [
+        vec![step(0x0B, 0, 0, 0, 0, [0; 6]), open(5), dot(3, 0), dot(2, 3), open(2), dot(3, 0)],
+        vec![lend, render(3, 3), render(4, 4), render(4, 3), step(0x41, 1, 0, 0, 12, [0; 6]), dot(0, 0)],
+    ];
+    let lines = calls::answer_list(&parts.concat().concat()).unwrap_or_default();
+    let (calls, cells) = lines.split_once("41 cell 0 ").unwrap_or_default();
+    let told = "0B refused 5\n02 done\n0A refused 9\n0A painted 1\n02 done\n0A painted 1\n01 lent\n";
+    calls == format!("{told}0E refused 12\n0E refused 13\n0E rendered 1 labels ?\n")
+        && cells.contains("41 cell 9 2022 255 16777216\n41 cell 10 0020 16777216 16777216\n")
+        && cells.ends_with("0A refused 6\n")
 }

@@ -1,6 +1,7 @@
 //! Hands a picture's calls to the Rust's canvas. The file is compiled twice: `super::rust` is the unchanged canvas in
 //! one place and the counted one in the other.
 use std::marker::PhantomData;
+use std::sync::atomic::Ordering;
 
 use ratatui_core::buffer::Buffer;
 use ratatui_core::layout::Rect;
@@ -34,6 +35,11 @@ pub fn render(picture: &Picture) -> Buffer {
 
 /// `Canvas::render` on an area that is the whole of a screen of the picture's size.
 pub fn render_on(picture: &Picture, screen: &mut Buffer) {
+    render_at(picture, (0, 0), screen);
+}
+
+/// `Canvas::render` on the area of the picture's size that has its corner here.
+pub fn render_at(picture: &Picture, (x, y): (u16, u16), screen: &mut Buffer) {
     let Opening { columns, rows, left, right, bottom, top, marker, background } = picture.opening;
     Canvas::default()
         .x_bounds([left, right])
@@ -41,7 +47,7 @@ pub fn render_on(picture: &Picture, screen: &mut Buffer) {
         .marker(marker)
         .background_color(background)
         .paint(|context: &mut Context| picture.calls.iter().for_each(|call| hand_over(context, call)))
-        .render(Rect { x: 0, y: 0, width: columns, height: rows }, screen);
+        .render(Rect { x, y, width: columns, height: rows }, screen);
 }
 
 fn hand_over(context: &mut Context, call: &Call) {
@@ -62,6 +68,23 @@ fn hand_over(context: &mut Context, call: &Call) {
 
 fn label(text: &[u8], color: Option<Color>) -> Text<'static> {
     Text { text: text.to_vec(), color, lent: PhantomData }
+}
+
+/// A canvas that is given one call after the other.
+pub struct Live(Context<'static>);
+
+impl Live {
+    pub fn open(opening: &Opening) -> Self {
+        let &Opening { columns, rows, left, right, bottom, top, marker, .. } = opening;
+        Self(Context::new(columns, rows, [left, right], [bottom, top], marker))
+    }
+
+    /// How often the call paints, where the sources are those that count.
+    pub fn take(&mut self, call: &Call) -> u64 {
+        let before = super::rust::PAINTED.load(Ordering::Relaxed);
+        hand_over(&mut self.0, call);
+        super::rust::PAINTED.load(Ordering::Relaxed) - before
+    }
 }
 
 /// `Painter::get_point` on a fresh canvas.

@@ -1,10 +1,12 @@
-//! The judge: what the Rust's canvas answers to picture files and to questions for `get_point`.
+//! The judge: what the Rust's canvas answers to picture files, to call lists and to questions for `get_point`.
 //!
 //!     judge            a bundle of picture files on standard input; prints what the program `cases` must print
 //!     judge --large    the same on canvases of up to 200 by 100; prints what the program `large` must print
+//!     judge --calls    a call list on standard input; prints what the program `calls` must print, `?` for what is untold
 //!     judge --points   questions for `get_point` on standard input; prints a line for each
 //!     judge --cuts     lines to clip on standard input; prints a line for each, with the number of cuts
 //!     judge --test     what the build shows of itself
+mod calls;
 mod checks;
 mod picture;
 
@@ -12,6 +14,8 @@ mod picture;
 #[path = "."]
 mod plain {
     use canvas_plain as rust;
+    // Each build is asked for a part of it.
+    #[allow(dead_code)]
     #[path = "drive.rs"]
     pub mod drive;
 }
@@ -20,6 +24,7 @@ mod plain {
 #[path = "."]
 mod counted {
     use canvas_counted as rust;
+    #[allow(dead_code)]
     #[path = "drive.rs"]
     pub mod drive;
 }
@@ -32,7 +37,7 @@ use std::sync::atomic::Ordering;
 
 use line_clipping::cohen_sutherland::clip_and_count;
 use line_clipping::{LineSegment, Point, Window};
-use ratatui_core::buffer::Buffer;
+use ratatui_core::buffer::{Buffer, Cell};
 use ratatui_core::symbols::Marker;
 
 use picture::{Answer, Picture, Refusal};
@@ -44,11 +49,12 @@ fn main() -> ExitCode {
     match mode.as_deref() {
         None => answer_input(|input| answer_bundle(input, answer)),
         Some("--large") => answer_input(|input| answer_bundle(input, answer_large)),
+        Some("--calls") => answer_input(calls::answer_list),
         Some("--points") => answer_input(|input| answer_each(input, QUESTION, answer_question)),
         Some("--cuts") => answer_input(|input| answer_each(input, LINE, answer_line)),
         Some("--test") => run_checks(),
         Some(_) => {
-            eprintln!("usage: judge [--large | --points | --cuts | --test]");
+            eprintln!("usage: judge [--large | --calls | --points | --cuts | --test]");
             ExitCode::from(2)
         }
     }
@@ -142,9 +148,15 @@ fn answer_picture(picture: &Picture, shown: fn(&Picture, &Buffer, u64) -> String
 
 /// The screen of the unchanged Rust and the count of the counted one; none if they do not show the same cells.
 fn draw(picture: &Picture) -> Option<(Buffer, u64)> {
-    let screen = plain::drive::render(picture);
+    draw_at(picture, (0, 0), &Buffer::blank(picture.opening.columns, picture.opening.rows))
+}
+
+/// The same on an area of a screen that holds something, with its corner here.
+fn draw_at(picture: &Picture, corner: (u16, u16), before: &Buffer) -> Option<(Buffer, u64)> {
+    let (mut screen, mut counted) = (before.clone(), before.clone());
+    plain::drive::render_at(picture, corner, &mut screen);
     canvas_counted::PAINTED.store(0, Ordering::Relaxed);
-    let counted = counted::drive::render(picture);
+    counted::drive::render_at(picture, corner, &mut counted);
     (screen == counted).then(|| (screen, canvas_counted::PAINTED.load(Ordering::Relaxed)))
 }
 
@@ -153,27 +165,26 @@ fn listing(picture: &Picture, screen: &Buffer, painted: u64) -> String {
     let mut text = format!("cells {columns} {rows} painted {painted}\n");
     for row in 0..rows {
         for column in 0..columns {
-            let cell = screen[(column, row)];
-            let (symbol, foreground, background) =
-                (cell.symbol as u32, cell.foreground.number(), cell.background.number());
-            writeln!(text, "{column} {row} {symbol:04X} {foreground} {background}").expect("a string takes it");
+            writeln!(text, "{column} {row} {}", shown_cell(screen[(column, row)])).expect("a string takes it");
         }
     }
     text
 }
 
-/// Each word of the screen counts by its place.
+fn shown_cell(cell: Cell) -> String {
+    format!("{:04X} {} {}", cell.symbol as u32, cell.foreground.number(), cell.background.number())
+}
+
 fn digest(picture: &Picture, screen: &Buffer, painted: u64) -> String {
-    let mut digest: u64 = 0;
-    for row in 0..picture.opening.rows {
-        for column in 0..picture.opening.columns {
-            let cell = screen[(column, row)];
-            for word in [cell.symbol as u32, cell.foreground.number(), cell.background.number()] {
-                digest = (digest * 31 + u64::from(word)) % 4294967291;
-            }
-        }
-    }
-    format!("painted {painted} digest {digest}\n")
+    let (columns, rows) = (picture.opening.columns, picture.opening.rows);
+    let cells = (0..rows).flat_map(|row| (0..columns).map(move |column| screen[(column, row)]));
+    format!("painted {painted} digest {}\n", digest_of(cells))
+}
+
+/// Each word of the screen counts by its place.
+fn digest_of(cells: impl Iterator<Item = Cell>) -> u64 {
+    let words = cells.flat_map(|cell| [cell.symbol as u32, cell.foreground.number(), cell.background.number()]);
+    words.fold(0, |digest, word| (digest * 31 + u64::from(word)) % 4_294_967_291)
 }
 
 // Questions for `get_point`.
@@ -200,21 +211,21 @@ fn answer_question(question: &[u8]) -> Option<String> {
     let size = (short(0), short(2));
     let bounds = [float(4)?, float(12)?, float(20)?, float(28)?];
     let marker = picture::check_marker(question[36], 0x20);
-    Some(dot_of(size, bounds, marker.ok(), float(37)?, float(45)?))
+    Some(dot_of(size, bounds, marker.ok(), float(37)?, float(45)?) + "\n")
 }
 
 /// Get_point: '5; 2', with 5 a size, bound or marker outside the domain.
 fn dot_of(size: (u16, u16), bounds: [f64; 4], marker: Option<Marker>, x: f64, y: f64) -> String {
-    let Some(marker) = marker else { return "refused 5\n".into() };
+    let Some(marker) = marker else { return "refused 5".into() };
     if !picture::size_in_domain(size.0, size.1) || !bounds.iter().all(|bound| picture::in_domain(*bound)) {
-        return "refused 5\n".into();
+        return "refused 5".into();
     }
     if !picture::in_domain(x) || !picture::in_domain(y) {
-        return "refused 2\n".into();
+        return "refused 2".into();
     }
     match plain::drive::get_point(size, bounds, marker, x, y) {
-        Some((column, row)) => format!("dot {column} {row}\n"),
-        None => "none\n".into(),
+        Some((column, row)) => format!("dot {column} {row}"),
+        None => "none".into(),
     }
 }
 

@@ -1,5 +1,5 @@
 //! A picture file, read by document 01 ('Picture file', 'Calls and refusals, in order'): the opening and the calls
-//! that are accepted, or the first refusal with its place.
+//! that are accepted, or the first refusal with its place. The calls' own refusals serve calls.rs too.
 use ratatui_core::style::Color;
 use ratatui_core::symbols::Marker;
 
@@ -60,7 +60,7 @@ pub enum Answer {
 }
 
 /// A refusal's number, still without its place.
-type Checked<T> = Result<T, u8>;
+pub type Checked<T> = Result<T, u8>;
 
 /// The picture of a file, with a size of at most so many columns and rows.
 pub fn read(file: &[u8], most: (u16, u16)) -> Answer {
@@ -76,7 +76,7 @@ pub fn read(file: &[u8], most: (u16, u16)) -> Answer {
 }
 
 fn read_records(reader: &mut Reader, opening: Opening) -> Answer {
-    let mut held = Held { marker: opening.marker, draws: 0, labels: 0 };
+    let mut held = Held::new(&opening);
     let mut picture = Picture { opening, calls: Vec::new() };
     while reader.at < reader.file.len() {
         let place = reader.at;
@@ -100,14 +100,18 @@ fn read_records(reader: &mut Reader, opening: Opening) -> Answer {
 }
 
 /// What the calls so far left that later refusals ask for.
-struct Held {
-    marker: Marker,
-    draws: usize,
-    labels: usize,
+pub struct Held {
+    pub marker: Marker,
+    pub draws: usize,
+    pub labels: usize,
 }
 
 impl Held {
-    fn accept(&mut self, call: &Call) {
+    pub fn new(opening: &Opening) -> Self {
+        Self { marker: opening.marker, draws: 0, labels: 0 }
+    }
+
+    pub fn accept(&mut self, call: &Call) {
         match call {
             Call::Layer => {}
             Call::Marker(marker) => self.marker = *marker,
@@ -223,13 +227,24 @@ fn read_opening(reader: &mut Reader, most: (u16, u16)) -> Checked<Opening> {
     let (bottom, top) = (fields.float()?, fields.float()?);
     let (marker, character) = (fields.marker()?, fields.character()?);
     let background = fields.color()?;
-    // Open: 1, 2, 3, 4.
     check_size(columns, most.0)?;
     check_size(rows, most.1)?;
-    check_numbers(&[left, right, bottom, top])?;
+    check_opening((columns, rows), [left, right, bottom, top], background, check_marker(marker, character))
+}
+
+/// Open: 1, 2, 3, 4.
+pub fn check_opening(
+    (columns, rows): (u16, u16),
+    bounds: [f64; 4],
+    background: Option<u32>,
+    marker: Checked<Marker>,
+) -> Checked<Opening> {
+    check_size(columns, MOST_COLUMNS)?;
+    check_size(rows, MOST_ROWS)?;
+    check_numbers(&bounds)?;
     let background = check_color(background)?;
-    let marker = check_marker(marker, character)?;
-    Ok(Opening { columns, rows, left, right, bottom, top, marker, background })
+    let [left, right, bottom, top] = bounds;
+    Ok(Opening { columns, rows, left, right, bottom, top, marker: marker?, background })
 }
 
 fn check_size(size: u16, most: u16) -> Checked<()> {
@@ -274,7 +289,7 @@ pub fn size_in_domain(columns: u16, rows: u16) -> bool {
 // The records.
 
 /// A record as its fields stand, before the call's own checks.
-enum Record {
+pub enum Record {
     Draw { numbers: Vec<f64>, color: Option<u32>, shape: fn(&[f64], Color) -> Call },
     Points { pairs: Vec<(f64, f64)>, color: Option<u32> },
     Layer,
@@ -302,19 +317,19 @@ fn read_record(reader: &mut Reader) -> Checked<Record> {
     }
 }
 
-fn line(n: &[f64], color: Color) -> Call {
+pub fn line(n: &[f64], color: Color) -> Call {
     Call::Line { x1: n[0], y1: n[1], x2: n[2], y2: n[3], color }
 }
 
-fn filled_line(n: &[f64], color: Color) -> Call {
+pub fn filled_line(n: &[f64], color: Color) -> Call {
     Call::FilledLine { x1: n[0], y1: n[1], x2: n[2], y2: n[3], fill_to_y: n[4], color }
 }
 
-fn rectangle(n: &[f64], color: Color) -> Call {
+pub fn rectangle(n: &[f64], color: Color) -> Call {
     Call::Rectangle { x: n[0], y: n[1], width: n[2], height: n[3], color }
 }
 
-fn circle(n: &[f64], color: Color) -> Call {
+pub fn circle(n: &[f64], color: Color) -> Call {
     Call::Circle { x: n[0], y: n[1], radius: n[2], color }
 }
 
@@ -347,10 +362,10 @@ fn read_dot(reader: &mut Reader, map: u8) -> Checked<Record> {
 
 // The calls' own refusals, in document 01's order.
 
-struct Rejected {
-    number: u8,
+pub struct Rejected {
+    pub number: u8,
     /// The call itself, where the Rust has an answer of its own to it.
-    call: Option<Call>,
+    pub call: Option<Call>,
 }
 
 impl From<u8> for Rejected {
@@ -359,7 +374,7 @@ impl From<u8> for Rejected {
     }
 }
 
-fn check_call(record: Record, held: &Held, opening: &Opening) -> Result<Call, Rejected> {
+pub fn check_call(record: Record, held: &Held, opening: &Opening) -> Result<Call, Rejected> {
     match record {
         Record::Draw { numbers, color, shape } => Ok(check_draw(&numbers, color, held).map(|c| shape(&numbers, c))?),
         Record::Points { pairs, color } => Ok(check_points(pairs, color, held)?),

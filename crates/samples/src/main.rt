@@ -1,30 +1,18 @@
 // Document 01's bench samples: the starred ones are a statement in specs/ and proved; the others are
-// run here, with the refusals that no picture file reaches and the call `points`, and what is printed is
-// held to the file stdout.
+// run here, and what is printed is held to the file stdout.
 use canvas::calls::dot;
 use canvas::calls::draw;
 use canvas::calls::get_point;
 use canvas::calls::open;
 use canvas::calls::print;
 use canvas::calls::render;
-use canvas::calls::zero_canvas;
 use ledger::labels::Choice;
 use ledger::screen::Area;
 use ledger::state::Answer;
-use ledger::state::Called;
-use ledger::state::Canvas;
 use ledger::state::Pointed;
-use pairs::points::points;
-use shapes::painters::Pair;
 use shapes::painters::Shape;
 use walk::clip::Bounds;
 use walk::clip::Segment;
-ghost use mathlib.Core.Path.{_≡_};
-ghost use Prim.Native.Nat.{_≤_};
-ghost use lib.ListN.{take};
-ghost use Rattle.ledger.specs.Calls.{points};
-ghost use Rattle.ledger.specs.Model.{stateAfter};
-ghost use Rattle.ledger.specs.Contracts.{given, calledOn};
 
 fn show_number(name: &[u8], n: u64) {
     io::write_all(1, name);
@@ -231,193 +219,10 @@ fn limits() {
     show_answer(longer_answer);
 }
 
-fn show_called(called: Called) {
-    let answer = called.answer;
-    show_answer(answer);
-}
-
-// '5 if the canvas holds a size ... outside the domain, or a store is too short': the canvas of a refused
-// opening, and a store that is one word short.
-fn refused_with_5() {
-    io::write_all(1, b"A canvas of 0 by 0, and a store that is too short\n");
-    let mut cells = [0u32; 5];
-    let labels = [0u32; 2816];
-    let zero = zero_canvas();
-    let on_zero = dot(zero, &mut cells, &labels, 0, 0, 255);
-    show_called(on_zero);
-    let mut few = [0u32; 4];
-    let opened = open(1, 1, bounds(1.0), 2, 0, 0, &mut cells, &labels);
-    let on_few = dot(opened.canvas, &mut few, &labels, 0, 0, 255);
-    show_called(on_few);
-}
-
-// '12 the area passes an edge; 13 not columns × rows cells', then an area inside a larger screen; and
-// '6 if it was rendered'.
-fn rendered_once() {
-    io::write_all(1, b"12, 13, an area inside the screen, and 6\n");
-    let mut cells = [0u32; 5];
-    let labels = [0u32; 2816];
-    let mut screen = [9u32; 18];
-    let opened = open(1, 1, bounds(1.0), 2, 0, 7, &mut cells, &labels);
-    let dotted = dot(opened.canvas, &mut cells, &labels, 0, 0, 255);
-    let outside = Area {
-        columns: 3,
-        rows: 2,
-        x: 3,
-        y: 0,
-    };
-    let past = render(dotted.canvas, &mut cells, &labels, outside, &mut screen);
-    show_called(past);
-    let area = Area {
-        columns: 3,
-        rows: 2,
-        x: 2,
-        y: 1,
-    };
-    let mut short = [9u32; 17];
-    let cut = render(dotted.canvas, &mut cells, &labels, area, &mut short);
-    show_called(cut);
-    let rendered = render(dotted.canvas, &mut cells, &labels, area, &mut screen);
-    show_called(rendered);
-    show_screen(&screen);
-    let late = dot(rendered.canvas, &mut cells, &labels, 0, 0, 255);
-    show_called(late);
-}
-
-// So many dots drawn; the canvas after them, and the last answer.
-fn dots(canvas: Canvas, cells: &mut [u32], labels: &[u32], count: u32) -> Called {
-    let mut called = Called {
-        canvas,
-        answer: Answer::Done,
-    };
-    let mut left = count;
-    while left > 0 {
-        called = dot(called.canvas, &mut *cells, labels, 0, 0, 255);
-        left -= 1;
-    }
-    called
-}
-
-// '7 if 65,535 draws and dots were accepted, never sooner'
-fn draws_full() {
-    io::write_all(1, b"The last of 65,535 dots, and one more\n");
-    let mut cells = [0u32; 5];
-    let labels = [0u32; 2816];
-    let opened = open(1, 1, bounds(1.0), 2, 0, 0, &mut cells, &labels);
-    let full = dots(opened.canvas, &mut cells, &labels, 65535);
-    show_called(full);
-    let one_more = dot(full.canvas, &mut cells, &labels, 0, 0, 255);
-    show_called(one_more);
-}
-
-// `points` over the first pairs of an array, which is lent.
-fn points_of(
-    canvas: Canvas,
-    cells: &mut [u32],
-    labels: &[u32],
-    pairs: [Pair; 1001],
-    count: usize,
-    colour: u32,
-) -> Called
-    requires { ⌜ count ≤ 1001 ⌝ }
-    ensures { λ r. ⌜ (r ≡ calledOn (given canvas (now (cells .entry)) (now (labels .entry))) (points (take count pairs) colour))
-        × (now (cells .exit) ≡ stateAfter (given canvas (now (cells .entry)) (now (labels .entry))) (points (take count pairs) colour) .cells) ⌝ }
-{
-    points(canvas, &mut *cells, labels, &pairs[..count], colour)
-}
-
-fn pair(x: f64, y: f64) -> Pair {
-    Pair { x, y }
-}
-
-// The five samples of get_point, 'bounds 1 to 2 and 0 to 2', as one Points: the third has no dot. Then
-// '6 if it was rendered'.
-fn points_shown() {
-    io::write_all(1, b"Points on 2 by 2 Braille, and once rendered\n");
-    let mut cells = [0u32; 20];
-    let labels = [0u32; 2816];
-    let mut screen = [9u32; 12];
-    let starred = Bounds {
-        left: 1.0,
-        right: 2.0,
-        bottom: 0.0,
-        top: 2.0,
-    };
-    let opened = open(2, 2, starred, 1, 0, 7, &mut cells, &labels);
-    let mut pairs = [pair(1.0, 0.0); 1001];
-    pairs[1] = pair(1.5, 1.0);
-    pairs[2] = pair(0.0, 0.0);
-    pairs[3] = pair(2.0, 2.0);
-    pairs[4] = pair(1.0, 2.0);
-    let drawn = points_of(opened.canvas, &mut cells, &labels, pairs, 5, 255);
-    show_called(drawn);
-    let area = Area {
-        columns: 2,
-        rows: 2,
-        x: 0,
-        y: 0,
-    };
-    let rendered = render(drawn.canvas, &mut cells, &labels, area, &mut screen);
-    show_called(rendered);
-    show_screen(&screen);
-    let late = points_of(rendered.canvas, &mut cells, &labels, pairs, 5, 255);
-    show_called(late);
-}
-
-// '8 over 1,000 pairs'; before it stand '3 colour' and '2 a number', which is here in the last pair, past
-// the thousandth. The thousand before it pass.
-fn points_refused() {
-    io::write_all(
-        1,
-        b"Points: 1,000 pairs, 1,001, a colour, a number, 1,000\n",
-    );
-    let mut cells = [0u32; 5];
-    let labels = [0u32; 2816];
-    let opened = open(1, 1, bounds(1.0), 2, 0, 0, &mut cells, &labels);
-    let mut pairs = [pair(0.0, 1.0); 1001];
-    let most = points_of(opened.canvas, &mut cells, &labels, pairs, 1000, 16777216);
-    show_called(most);
-    let more = points_of(most.canvas, &mut cells, &labels, pairs, 1001, 16777216);
-    show_called(more);
-    let colour = points_of(most.canvas, &mut cells, &labels, pairs, 1001, 16777217);
-    show_called(colour);
-    pairs[1000] = pair(0.0, 1099511627776.000244140625);
-    let number = points_of(most.canvas, &mut cells, &labels, pairs, 1001, 16777217);
-    show_called(number);
-    let without = points_of(most.canvas, &mut cells, &labels, pairs, 1000, 255);
-    show_called(without);
-}
-
-// '7 if 65,535 draws and dots were accepted, never sooner': the last accepted is a Points with no pair. 7
-// stands before 8.
-fn points_full() {
-    io::write_all(
-        1,
-        b"Points after 65,534 dots, and after 65,535 draws and dots\n",
-    );
-    let mut cells = [0u32; 5];
-    let labels = [0u32; 2816];
-    let opened = open(1, 1, bounds(1.0), 2, 0, 0, &mut cells, &labels);
-    let dotted = dots(opened.canvas, &mut cells, &labels, 65534);
-    let pairs = [pair(0.0, 1.0); 1001];
-    let last = points_of(dotted.canvas, &mut cells, &labels, pairs, 0, 255);
-    show_called(last);
-    let one_more = points_of(last.canvas, &mut cells, &labels, pairs, 1, 255);
-    show_called(one_more);
-    let too_long = points_of(last.canvas, &mut cells, &labels, pairs, 1001, 255);
-    show_called(too_long);
-}
-
 fn main() {
     dot_past_row_end(2);
     dot_past_row_end(5);
     label_truncated();
     all_bounds_zero();
     limits();
-    refused_with_5();
-    rendered_once();
-    draws_full();
-    points_shown();
-    points_refused();
-    points_full();
 }

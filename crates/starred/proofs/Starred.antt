@@ -8,7 +8,7 @@ use Rattle.walk.specs.Line.{startsSecond, fromStart, offsetAfter, dotAfter, lin
 use Rattle.grids.specs.Markers.{dotSize}
 use Rattle.grids.specs.Symbols.{brailleSymbol, quadrantSymbol, sextantSymbol, symbolOf}
 use Rattle.view.specs.Point.{outsideBounds, flatBounds, scaledOf, pointOf}
-use Rattle.samples.specs.Starred.{AllHold, starred}
+use Rattle.starred.specs.Starred.{AllHold, starred}
 
 pub starred-hold : AllHold starred
 unfolding ofBits add sub mul div lt le neg ofInt toSigned toUnsigned roundOf floorOf asUnsigned absOf dotSize outsideBounds flatBounds scaledOf pointOf startsSecond fromStart offsetAfter dotAfter lineDots brailleSymbol quadrantSymbol sextantSymbol symbolOf asSigned

@@ -1,4 +1,4 @@
--- `points_of` meets its contract: a walk of its MIR, by hand. The array is copied to a place in memory, its first pairs are lent there for a lifetime of the call, and the cells and the labels are passed on as they came.
+-- `draws::points_of` meets its contract: a walk of its MIR, by hand. The array is copied to a place in memory, its first pairs are lent there for a lifetime of the call, and the cells and the labels are passed on as they came.
 -- Assumes nothing.
 use mathlib.Core.Path.{_≡_, refl, sym}
 use Prim.Native.Nat.{ℕ, _<_, _≤_, _^_}
@@ -59,14 +59,14 @@ use Rattle.pairs.proofs.points.points as points
 use Rattle.pairs.proofs.points.points.Symbol as points-def
 use Rattle.pairs.proofs.points.points.Symbol.{name as #points}
 use Rattle.pairs.proofs.points.points.Met as points-thm
-use Rattle.samples.proofs.points_of.Key.{name as #points-of}
-use Rattle.samples.proofs.points_of as f
-use Rattle.samples.proofs.points_of.Statement as stated
-use Rattle.samples.proofs.points_of.Code as code
+use Rattle.test_calls.proofs.draws.points_of.Key.{name as #points-of}
+use Rattle.test_calls.proofs.draws.points_of as f
+use Rattle.test_calls.proofs.draws.points_of.Statement as stated
+use Rattle.test_calls.proofs.draws.points_of.Code as code
 
 -- the array's length
 abbrev most : ℕ
-most = 1001
+most = 2048
 
 -- the labels, the array and the two numbers are given up or forgotten: of the parameters only the cells have something to say at exit, and they were given up to `points`
 abbrev labels-slot : Slot 2
