@@ -85,6 +85,11 @@ static uint8_t *read_file(const char *name, size_t *length)
             }
         }
     }
+    /* a read that fails is not the end of the file */
+    if (ferror(stream)) {
+        perror(name);
+        exit(2);
+    }
     fclose(stream);
     *length = n;
     return bytes;
@@ -106,5 +111,9 @@ int main(int count, char **words)
     else
         draw(file, length, strcmp(words[1], "list") == 0);
     free(file);
+    if (fflush(stdout) != 0 || ferror(stdout)) {
+        perror("standard output");
+        return 2;
+    }
     return 0;
 }

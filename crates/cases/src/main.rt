@@ -1,44 +1,44 @@
 // Reads a bundle of cases on standard input and prints, for each, `case NAME` and then what `layout`
 // prints for its file. A case is the name's length (1 byte), the name, the file's length (4 bytes,
 // little-endian) and the file. The stored output is made by a model of document 01 (tools/model).
-use bundle::read_length;
+use bundle::read_file;
 use bundle::read_name_length;
 use bundle::read_part;
-use bundle::skip_rest;
-use report::printing::held;
-use report::printing::list_picture;
+use report::program::print_layout;
+use streams::print;
 
 // What `layout` prints. Answers whether it was written.
 fn print_listing(file: &[u8]) -> bool {
-    let mut cells = [0u32; 9600];
-    let mut labels = [0u32; 2816];
-    let mut screen = [0u32; 5760];
     let mut out = [0u8; 65536];
-    let length = list_picture(file, 80, 24, &mut cells, &mut labels, &mut screen, &mut out);
-    let n = held(length, &out);
-    io::write_all(1, &out[..n])
+    let n = print_layout(file, &mut out);
+    print(b"cases", &out[..n])
 }
 
-// The line of a case's name. Answers false at the end of the bundle.
+// The line of a case's name. Answers false at the end of the bundle, or where it cannot be read.
 fn print_name() -> bool {
-    let length = read_name_length();
+    let length = read_name_length(b"cases");
     if length > 255 {
         return false;
     }
     let mut name = [0u8; 255];
-    let n = read_part(&mut name, length);
+    let part = read_part(b"cases", &mut name, length);
+    if part.failed {
+        return false;
+    }
+    let n = part.count;
     io::write_all(1, b"case ");
     io::write_all(1, &name[..n]);
-    io::write_all(1, b"\n")
+    print(b"cases", b"\n")
 }
 
-// The listing of a case's file. A file that fills the buffer is refused with 17 whatever follows, so
-// the rest is skipped.
+// The listing of a case's file. A file that fills the buffer is refused with 17 whatever follows.
 fn print_file() -> bool {
-    let length = read_length();
     let mut buffer = [0u8; 65537];
-    let n = read_part(&mut buffer, length);
-    skip_rest(length, 65537);
+    let file = read_file(b"cases", &mut buffer);
+    if file.failed {
+        return false;
+    }
+    let n = file.count;
     print_listing(&buffer[..n])
 }
 

@@ -1,14 +1,14 @@
 // Reads a bundle of cases, as `cases` does, and draws each on a canvas of any size that document 01's
 // domain has, 200 columns by 100 rows. Prints `case NAME` and then the painted count with a digest of the
 // screen's words, or the refusal.
-use bundle::read_length;
+use bundle::read_file;
 use bundle::read_name_length;
 use bundle::read_part;
-use bundle::skip_rest;
 use picture::run::Drawn;
 use picture::run::draw_picture;
 use report::screen::blank_screen;
 use report::screen::picture_size;
+use streams::print;
 ghost use Prim.Native.Nat.{_≤_, _<_};
 ghost use lib.ListN.{length};
 
@@ -49,7 +49,7 @@ fn print_drawn(file: &[u8], cells: &mut [u32], labels: &mut [u32], screen: &mut 
             print_number(b" at ", place as u64);
         }
     }
-    io::write_all(1, b"\n")
+    print(b"large", b"\n")
 }
 
 fn least(a: usize, words: &[u32]) -> usize
@@ -67,17 +67,21 @@ fn print_picture(file: &[u8]) -> bool {
     print_drawn(file, &mut cells, &mut labels, &mut screen[..n])
 }
 
-// The line of a case's name. Answers false at the end of the bundle.
+// The line of a case's name. Answers false at the end of the bundle, or where it cannot be read.
 fn print_name() -> bool {
-    let length = read_name_length();
+    let length = read_name_length(b"large");
     if length > 255 {
         return false;
     }
     let mut name = [0u8; 255];
-    let n = read_part(&mut name, length);
+    let part = read_part(b"large", &mut name, length);
+    if part.failed {
+        return false;
+    }
+    let n = part.count;
     io::write_all(1, b"case ");
     io::write_all(1, &name[..n]);
-    io::write_all(1, b"\n")
+    print(b"large", b"\n")
 }
 
 // One case. Answers whether another may follow.
@@ -85,10 +89,12 @@ fn print_case() -> bool {
     if !print_name() {
         return false;
     }
-    let length = read_length();
     let mut buffer = [0u8; 65537];
-    let n = read_part(&mut buffer, length);
-    skip_rest(length, 65537);
+    let file = read_file(b"large", &mut buffer);
+    if file.failed {
+        return false;
+    }
+    let n = file.count;
     print_picture(&buffer[..n])
 }
 

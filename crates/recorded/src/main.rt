@@ -2,13 +2,19 @@
 // (length of 1 byte), the file (length of 4 bytes) and what the Rust gave for it, in the form that
 // `layout` prints (length of 4 bytes). Prints the name of each file for which `layout` would print
 // something else, and how many agree.
-use bundle::read_length;
+use bundle::read_file;
 use bundle::read_name_length;
 use bundle::read_part;
-use bundle::skip_rest;
-use report::printing::held;
-use report::printing::list_picture;
+use report::program::print_layout;
+use streams::print;
 ghost use Prim.Native.Nat.{_<_};
+
+// What the replay of a file comes to.
+enum Replayed {
+    Agrees,
+    Differs,
+    Unread,
+}
 
 // How many agree, how many differ, and whether the bundle goes on.
 struct Tally {
@@ -32,60 +38,71 @@ fn is_same(a: &[u8], b: &[u8]) -> bool {
 }
 
 // Whether `layout` prints the answer for the file.
-fn is_answer(file: &[u8], answer: &[u8]) -> bool {
-    let mut cells = [0u32; 9600];
-    let mut labels = [0u32; 2816];
-    let mut screen = [0u32; 5760];
+fn compared(file: &[u8], answer: &[u8]) -> Replayed {
     let mut out = [0u8; 65536];
-    let length = list_picture(file, 80, 24, &mut cells, &mut labels, &mut screen, &mut out);
-    let n = held(length, &out);
-    is_same(&out[..n], answer)
-}
-
-// The file and its answer from the bundle: whether they agree. A file that fills the buffer is refused
-// with 17 whatever follows, so the rest is skipped.
-fn replay() -> bool {
-    let length = read_length();
-    let mut file = [0u8; 65537];
-    let n = read_part(&mut file, length);
-    skip_rest(length, 65537);
-    let answer_length = read_length();
-    let mut answer = [0u8; 65536];
-    let m = read_part(&mut answer, answer_length);
-    is_answer(&file[..n], &answer[..m])
-}
-
-fn counted(t: Tally, same: bool) -> Tally {
-    if same {
-        let agree = std::num::wrapping_add_u32(t.agree, 1);
-        return Tally { agree, ..t };
+    let n = print_layout(file, &mut out);
+    if is_same(&out[..n], answer) {
+        return Replayed::Agrees;
     }
-    let differ = std::num::wrapping_add_u32(t.differ, 1);
-    Tally { differ, ..t }
+    Replayed::Differs
+}
+
+// The file and its answer from the bundle. A file that fills the buffer is refused with 17 whatever
+// follows.
+fn replay() -> Replayed {
+    let mut file = [0u8; 65537];
+    let given = read_file(b"recorded", &mut file);
+    if given.failed {
+        return Replayed::Unread;
+    }
+    let mut answer = [0u8; 65536];
+    let wanted = read_file(b"recorded", &mut answer);
+    if wanted.failed {
+        return Replayed::Unread;
+    }
+    let n = given.count;
+    let m = wanted.count;
+    compared(&file[..n], &answer[..m])
+}
+
+fn print_difference(name: &[u8]) {
+    io::write_all(1, b"differs: ");
+    io::write_all(1, name);
+    print(b"recorded", b"\n");
 }
 
 // One file of the bundle.
 fn replay_next(t: Tally) -> Tally {
-    let length = read_name_length();
+    let length = read_name_length(b"recorded");
     if length > 255 {
         return Tally { more: false, ..t };
     }
     let mut name = [0u8; 255];
-    let n = read_part(&mut name, length);
-    let same = replay();
-    if !same {
-        io::write_all(1, b"differs: ");
-        io::write_all(1, &name[..n]);
-        io::write_all(1, b"\n");
+    let part = read_part(b"recorded", &mut name, length);
+    if part.failed {
+        return Tally { more: false, ..t };
     }
-    counted(t, same)
+    let n = part.count;
+    let replayed = replay();
+    match replayed {
+        Replayed::Agrees => {
+            let agree = std::num::wrapping_add_u32(t.agree, 1);
+            Tally { agree, ..t }
+        }
+        Replayed::Differs => {
+            print_difference(&name[..n]);
+            let differ = std::num::wrapping_add_u32(t.differ, 1);
+            Tally { differ, ..t }
+        }
+        Replayed::Unread => Tally { more: false, ..t },
+    }
 }
 
 fn print_tally(t: Tally) {
     io::print_decimal(1, t.agree as u64);
     io::write_all(1, b" agree, ");
     io::print_decimal(1, t.differ as u64);
-    io::write_all(1, b" differ\n");
+    print(b"recorded", b" differ\n");
 }
 
 // How many files may still follow: none where the bundle has ended.

@@ -1,23 +1,19 @@
 // Reads a picture file on standard input and prints its screen for a terminal, in colour, or its refusal.
-use report::printing::held;
-use report::printing::show_picture;
+// Only the reading and the writing are here, as in `layout`.
+use report::program::print_show;
+use streams::print;
+use streams::read_input;
 
-// Prints what a file of a canvas of at most 80 by 24 cells gives. The stores have five words a cell and
-// 64 labels, the screen three words a cell. A cell has at most 42 bytes, two colours of 19 and a symbol
-// of four, and a row's end five. A write that fails ends it.
-fn print_picture(file: &[u8]) {
-    let mut cells = [0u32; 9600];
-    let mut labels = [0u32; 2816];
-    let mut screen = [0u32; 5760];
-    let mut out = [0u8; 81920];
-    let length = show_picture(file, 80, 24, &mut cells, &mut labels, &mut screen, &mut out);
-    let n = held(length, &out);
-    io::write_all(1, &out[..n]);
-}
-
-// The buffer has one byte more than a file may have: where it is full, the file is refused with 17.
+// The buffer has one byte more than a file may have: where it is full, the file is refused with 17
+// whatever follows (report's `Enough`).
 fn main() {
     let mut buffer = [0u8; 65537];
-    let n = io::read_full(0, &mut buffer);
-    print_picture(&buffer[..n]);
+    let input = read_input(b"show", &mut buffer);
+    if input.failed {
+        return;
+    }
+    let n = input.count;
+    let mut out = [0u8; 81920];
+    let length = print_show(&buffer[..n], &mut out);
+    print(b"show", &out[..length]);
 }

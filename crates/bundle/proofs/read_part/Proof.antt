@@ -10,14 +10,14 @@ use Rattle.bundle.proofs.read_part.Tie as tie
 held-requires : tie.Need-held-requires
 held-requires c κs = search needs
 
-slice-relend-prefix-read-full : tie.Need-slice-relend-prefix-read-full
-slice-relend-prefix-read-full c = search needs
+slice-relend-prefix-read-input : tie.Need-slice-relend-prefix-read-input
+slice-relend-prefix-read-input c = search needs
 
-slice-aggregate-read-full : tie.Need-slice-aggregate-read-full
-slice-aggregate-read-full c = search needs
+slice-aggregate-read-input : tie.Need-slice-aggregate-read-input
+slice-aggregate-read-input c = sym (length-take-le _ _ (search needs))
 
-read-full-requires : tie.Need-read-full-requires
-read-full-requires c κs = search needs
+read-input-requires : tie.Need-read-input-requires
+read-input-requires c κs = search needs
 
 same-length : tie.Need-same-length
 same-length c = search needs
@@ -30,8 +30,8 @@ read-part-spec =
     tie.close
     (tie.spec
     held-requires
-    slice-relend-prefix-read-full
-    slice-aggregate-read-full
-    read-full-requires
+    slice-relend-prefix-read-input
+    slice-aggregate-read-input
+    read-input-requires
     same-length
     returns)

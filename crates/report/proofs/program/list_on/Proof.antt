@@ -1,9 +1,9 @@
 -- The screen is blanked and the picture drawn on it; then the bytes of its outcome are put.
 use borrow.Author.Needs.{needs}
 use Rattle.report.specs.Printing.{onBlank}
-use Rattle.report.proofs.Prints.{same-bytes, on-blank, shows-shown, shows-refused}
-use Rattle.report.proofs.printing.show_on.Statement.{statement}
-use Rattle.report.proofs.printing.show_on.Tie as tie
+use Rattle.report.proofs.Prints.{same-bytes, on-blank, lists-shown, lists-refused}
+use Rattle.report.proofs.program.list_on.Statement.{statement}
+use Rattle.report.proofs.program.list_on.Tie as tie
 
 blank-screen-requires : tie.Need-blank-screen-requires
 blank-screen-requires c κs = search needs
@@ -20,8 +20,8 @@ number16-requires c κs = search needs
 number16-requires-2 : tie.Need-number16-requires-2
 number16-requires-2 c κs = search needs
 
-write-terminal-requires : tie.Need-write-terminal-requires
-write-terminal-requires c κs = search needs
+write-listing-requires : tie.Need-write-listing-requires
+write-listing-requires c κs = search needs
 
 enum-known-drawn-2 : tie.Need-enum-known-drawn-2
 enum-known-drawn-2 c = search needs
@@ -48,7 +48,7 @@ returns c =
     let a = c .before .before .before .before .before .before .before .before .before .before .before .before .before .before .before .before .before .before .before .before .before .before .before .before .before .before .before .before .before .args in
     let p = onBlank (a .file .now) (a .widest) (a .highest) (a .cells .now) (a .labels .now) (a .screen .now) in
     let w = on-blank (a .file .now) (a .cells .now) (a .labels .now) (a .screen .now) (a .widest) (a .highest) (blank .ensures) (draw .ensures) in
-    (same-bytes (a .out .now) (shows-shown (a .file .now) p (w .0) _ _ (c .before .before .before .before .before .before .before .before .drawn .given .1) (c .before .before .before .before .before .before .number16 .ensures) (c .before .before .before .before .before .number162 .ensures) (w .1 .1 .1)) (c .before .before .write-terminal .ensures), w .1)
+    same-bytes (a .out .now) (lists-shown (a .file .now) p (w .0) _ _ (c .before .before .before .before .before .before .before .before .drawn .given .1) (c .before .before .before .before .before .before .number16 .ensures) (c .before .before .before .before .before .number162 .ensures) (w .1 .1 .1)) (c .before .before .write-listing .ensures)
 
 same-length-5 : tie.Need-same-length-5
 same-length-5 c = search needs
@@ -69,10 +69,10 @@ returns-2 c =
     let a = c .before .before .before .before .before .before .before .before .before .before .before .before .before .before .before .before .before .before .before .before .before .before .before .before .before .before .args in
     let p = onBlank (a .file .now) (a .widest) (a .highest) (a .cells .now) (a .labels .now) (a .screen .now) in
     let w = on-blank (a .file .now) (a .cells .now) (a .labels .now) (a .screen .now) (a .widest) (a .highest) (blank .ensures) (draw .ensures) in
-    (same-bytes (a .out .now) (shows-refused (a .file .now) p (w .0) _ _ (c .before .before .before .before .before .drawn2 .given .1)) (c .before .before .write-refusal .ensures), w .1)
+    same-bytes (a .out .now) (lists-refused (a .file .now) p (w .0) _ _ (c .before .before .before .before .before .drawn2 .given .1)) (c .before .before .write-refusal .ensures)
 
-pub show-on-spec : {M : Type 1} → statement M
-show-on-spec =
+pub list-on-spec : {M : Type 1} → statement M
+list-on-spec =
     tie.close
     (tie.spec
     blank-screen-requires
@@ -80,7 +80,7 @@ show-on-spec =
     enum-known-drawn
     number16-requires
     number16-requires-2
-    write-terminal-requires
+    write-listing-requires
     enum-known-drawn-2
     write-refusal-requires
     same-length
