@@ -50,9 +50,9 @@ def make_archive():
     given = os.environ.get("ARCHIVE")
     if given:
         return os.path.abspath(given)
-    if subprocess.run(["rt", "staticlib", "exports"], cwd=ROOT, stdout=subprocess.DEVNULL).returncode:
+    if subprocess.run([os.path.join(ROOT, "bindings", "archive")], cwd=ROOT, stdout=subprocess.DEVNULL).returncode:
         sys.exit("bench: the archive could not be made")
-    return os.path.join(ROOT, "target", "staticlib", "libexports.a")
+    return os.path.join(ROOT, "target", "staticlib", "libmossbuckle.a")
 
 
 def rustc(*arguments):

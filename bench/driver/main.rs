@@ -1,11 +1,14 @@
-//! The benchmark's driver: the same pictures drawn by us and by the Rust, in one program.
+//! The benchmark's driver: the same pictures drawn by us and by the Rust, in one program; by us from a file or, where a
+//! picture's name says so, by calls.
 //!
 //!     driver time [WORD...]         the times of both by turns, as tables
 //!     driver stack                  the stack that our side needs
-//!     driver list [WORD...]         a line for each picture: table, number in it, name
+//!     driver list [WORD...]         a line for each picture: table, number in it, name, sides
 //!     driver turns TABLE N SIDE K   draws picture N of a table K times, for a count of instructions
+//!     driver points WAY K           asks K times for a point's dot, by words or by numbers, for a count
 //!
 //! With words only the pictures are taken whose table or name has one of them.
+mod calls;
 mod ours;
 #[allow(dead_code)]
 #[path = "../../compare/judge/picture.rs"]
@@ -37,6 +40,7 @@ use std::process::ExitCode;
 
 use ratatui_core::buffer::Buffer;
 
+use calls::Host;
 use ours::Lent;
 use picture::{Answer, Picture};
 use pictures::{Class, Table};
@@ -50,8 +54,9 @@ fn main() -> ExitCode {
         ["stack"] => print_stack(),
         ["list", ref words @ ..] => print_list(words),
         ["turns", table, number, side, turns] => return run_turns(table, number, side, turns),
+        ["points", way @ ("words" | "numbers"), count] => ask_points(way == "words", count.parse().unwrap_or(1)),
         _ => {
-            eprintln!("usage: driver time [WORD...] | stack | list [WORD...] | turns TABLE N SIDE K");
+            eprintln!("usage: driver time [WORD...] | stack | list [WORD...] | turns TABLE N SIDE K | points WAY K");
             return ExitCode::from(2);
         }
     }
@@ -81,9 +86,14 @@ fn decoded(class: &Class) -> Picture {
     }
 }
 
-fn our_turn(class: &Class) -> Turn<'_> {
+fn file_turn(class: &Class) -> Turn<'_> {
     let mut lent = Lent::new(class);
     Box::new(move || assert_eq!(black_box(&mut lent).draw(), 0))
+}
+
+fn calls_turn(class: &Class) -> Turn<'_> {
+    let mut host = Host::new(decoded(class));
+    Box::new(move || assert_eq!(black_box(&mut host).draw(), 0))
 }
 
 fn rust_turn(class: &Class, render: fn(&Picture, &mut Buffer)) -> Turn<'_> {
@@ -92,9 +102,15 @@ fn rust_turn(class: &Class, render: fn(&Picture, &mut Buffer)) -> Turn<'_> {
     Box::new(move || render(black_box(&picture), black_box(&mut screen)))
 }
 
+/// The sides of a picture, ours first. A picture that is drawn by calls is drawn from its file too.
+fn sides_of(class: &Class) -> &'static [&'static str] {
+    if class.by_calls { &["ours", "rust", "std", "file"] } else { &["ours", "rust", "std"] }
+}
+
 fn turn_of<'a>(class: &'a Class, side: &str) -> Option<Turn<'a>> {
     match side {
-        "ours" => Some(our_turn(class)),
+        "ours" if class.by_calls => Some(calls_turn(class)),
+        "ours" | "file" => Some(file_turn(class)),
         "rust" => Some(rust_turn(class, plain::drive::render_on)),
         "std" => Some(rust_turn(class, with_std::drive::render_on)),
         _ => None,
@@ -103,16 +119,23 @@ fn turn_of<'a>(class: &'a Class, side: &str) -> Option<Turn<'a>> {
 
 /// Both sides draw on a blank screen, and every symbol and colour must be the same. Gives the dots painted.
 fn compared(class: &Class) -> u64 {
-    let mut lent = Lent::new(class);
-    assert_eq!(lent.draw(), 0, "'{}' is refused", class.name);
+    let (ours, painted) = drawn(class);
     let screen = plain::drive::render(&decoded(class));
     let columns = usize::from(class.size.0);
-    for (k, cell) in lent.screen_cells().enumerate() {
+    for (k, cell) in ours.chunks_exact(3).enumerate() {
         let its = screen[((k % columns) as u16, (k / columns) as u16)];
         let its = [its.symbol as u32, its.foreground.number(), its.background.number()];
         assert_eq!(cell, its, "'{}' differs in cell {k}", class.name);
     }
-    lent.painted
+    painted
+}
+
+/// Our screen, three words a cell, and the dots painted.
+fn drawn(class: &Class) -> (Vec<u32>, u64) {
+    let (mut lent, mut host) = (Lent::new(class), Host::new(decoded(class)));
+    let refused = if class.by_calls { host.draw() } else { lent.draw() };
+    assert_eq!(refused, 0, "'{}' is refused", class.name);
+    if class.by_calls { (host.screen().to_vec(), host.painted) } else { (lent.screen().to_vec(), lent.painted) }
 }
 
 // What is printed.
@@ -121,17 +144,21 @@ fn print_times(words: &[&str]) {
     print!("{}", include_str!("method.txt"));
     for (title, classes) in chosen(words) {
         println!(
-            "\n{title:<26} {:>9} {:>10} {:>10}  {:<24} {:>5}  {:<24}",
-            "dots", "ours us", "Rust us", "Rust / ours", "goal", "Rust with std / ours"
+            "\n{title:<34} {:>9} {:>10} {:>10}  {:<24} {:>5}  {:<24} {}",
+            "dots", "ours us", "Rust us", "Rust / ours", "goal", "Rust with std / ours", "by file / ours"
         );
         for (_, class) in classes {
             let dots = compared(&class);
-            let mut sides = ["ours", "rust", "std"].map(|side| turn_of(&class, side).expect("there is such a side"));
-            let timed = timing::time_by_turns(&mut sides);
+            let side = |side: &&str| turn_of(&class, side).expect("there is such a side");
+            let timed = timing::time_by_turns(&mut sides_of(&class).iter().map(side).collect::<Vec<_>>());
             let [ours, rust] = [0, 1].map(|side: usize| timed.times[side].median / 1000.0);
-            let [ratio, with_std] = [1, 2].map(|side: usize| shown(timed.ratios[side]));
+            let [ratio, with_std, file] =
+                [1, 2, 3].map(|side: usize| timed.ratios.get(side).map_or("-".into(), |spread| shown(*spread)));
             let goal = if class.goal > 0.0 { class.goal.to_string() } else { "-".into() };
-            println!("{:<26} {dots:>9} {ours:>10.1} {rust:>10.1}  {ratio:<24} {goal:>5}  {with_std:<24}", class.name);
+            println!(
+                "{:<34} {dots:>9} {ours:>10.1} {rust:>10.1}  {ratio:<24} {goal:>5}  {with_std:<24} {file}",
+                class.name
+            );
         }
     }
 }
@@ -142,8 +169,12 @@ fn shown(spread: Spread) -> String {
 
 fn print_stack() {
     let stack_of = |class: &Class| {
-        let mut lent = Lent::new(class);
-        stack::stack_of(|| assert_eq!(lent.draw(), 0))
+        let (mut lent, mut host) = (Lent::new(class), Host::new(decoded(class)));
+        if class.by_calls {
+            stack::stack_of(|| assert_eq!(host.draw(), 0))
+        } else {
+            stack::stack_of(|| assert_eq!(lent.draw(), 0))
+        }
     };
     let most = chosen(&[]).iter().flat_map(|(_, classes)| classes).map(|(_, class)| stack_of(class)).max();
     println!("Stack: at most {} bytes in a call, its arguments included.", most.expect("there are pictures"));
@@ -152,7 +183,7 @@ fn print_stack() {
 fn print_list(words: &[&str]) {
     for (title, classes) in chosen(words) {
         for (number, class) in classes {
-            println!("{title}\t{number}\t{}", class.name);
+            println!("{title}\t{number}\t{}\t{}", class.name, sides_of(&class).join(" "));
         }
     }
 }
@@ -167,4 +198,10 @@ fn run_turns(table: &str, number: &str, side: &str, turns: &str) -> ExitCode {
     };
     (0..turns).for_each(|_| turn());
     ExitCode::SUCCESS
+}
+
+/// On a canvas of 80 by 24.
+fn ask_points(by_words: bool, count: u32) {
+    let tables = pictures::tables();
+    Host::new(decoded(&tables[0].classes[0])).ask(by_words, count);
 }

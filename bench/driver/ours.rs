@@ -20,9 +20,13 @@ unsafe extern "C" {
     ) -> u8;
 }
 
-const CELL_WORDS: usize = 5;
-const SCREEN_WORDS: usize = 3;
-const LABEL_WORDS: usize = 64 * 44;
+pub const CELL_WORDS: usize = 5;
+pub const LABEL_WORDS: usize = 64 * 44;
+
+/// The words of so many blank cells of a screen: 0020, Reset, Reset.
+pub fn blank_cells(cells: usize) -> Vec<u32> {
+    [0x20, 1 << 24, 1 << 24].repeat(cells)
+}
 
 /// What is lent to a draw, made once for a picture.
 pub struct Lent<'a> {
@@ -34,14 +38,13 @@ pub struct Lent<'a> {
 }
 
 impl<'a> Lent<'a> {
-    /// The screen is blank: 0020, Reset, Reset.
     pub fn new(class: &'a Class) -> Self {
         let cells = usize::from(class.size.0) * usize::from(class.size.1);
         Self {
             file: &class.file,
             cells: vec![0; cells * CELL_WORDS],
             labels: vec![0; LABEL_WORDS],
-            screen: [0x20, 1 << 24, 1 << 24].repeat(cells),
+            screen: blank_cells(cells),
             painted: 0,
         }
     }
@@ -70,8 +73,7 @@ impl<'a> Lent<'a> {
         }
     }
 
-    /// The screen's cells: symbol, foreground, background.
-    pub fn screen_cells(&self) -> impl Iterator<Item = &[u32]> {
-        self.screen.chunks_exact(SCREEN_WORDS)
+    pub fn screen(&self) -> &[u32] {
+        &self.screen
     }
 }

@@ -6,12 +6,14 @@ pub type Size = (u16, u16);
 pub const SMALL: Size = (80, 24);
 pub const LARGE: Size = (200, 100);
 
-/// A picture with its name, and the ratio that is aimed at (the Rust's time to ours); 0 where there is none.
+/// A picture with its name, and the ratio that is aimed at (the Rust's time to ours); 0 where there is none. Ours is
+/// drawn from the file, or by a call for each of its records.
 pub struct Class {
     pub name: &'static str,
     pub size: Size,
     pub goal: f64,
     pub file: Vec<u8>,
+    pub by_calls: bool,
 }
 
 /// A table: what is measured in it, and its rows.
@@ -24,6 +26,7 @@ pub fn tables() -> Vec<Table> {
     vec![
         Table { title: "80 by 24", classes: kinds(SMALL) },
         Table { title: "200 by 100", classes: kinds(LARGE) },
+        Table { title: "single calls", classes: single_calls(SMALL) },
         Table { title: "growth", classes: growth() },
     ]
 }
@@ -33,7 +36,8 @@ const DOT: u8 = 2;
 const HALF_BLOCK: u8 = 5;
 
 fn kinds(size: Size) -> Vec<Class> {
-    let class = |name, goal, file| Class { name, size, goal, file };
+    let class = |name, goal, file| Class { name, size, goal, file, by_calls: false };
+    let by_calls = |name, file| Class { name, size, goal: 1.0, file, by_calls: true };
     vec![
         class("empty", 1.0, File::open(size, BRAILLE).bytes),
         class("400 lines, Dot", 1.5, lines(size, DOT, 400)),
@@ -52,12 +56,33 @@ fn kinds(size: Size) -> Vec<Class> {
         class("64 labels", 1.0, labels(size, 64)),
         class("a typical ticket", 1.0, ticket(size)),
         class("400 lines outside", 0.0, lines_outside(size, 400)),
+        by_calls("400 lines, Dot, by calls", lines(size, DOT, 400)),
+        by_calls("400 lines, Braille, by calls", lines(size, BRAILLE, 400)),
+        by_calls("2 lists of 1,000 points, by calls", points(size, 2, 1000)),
+        by_calls("100 lists of 10 points, by calls", points(size, 100, 10)),
+        by_calls("100 circles, by calls", circles(size, BRAILLE, 100)),
+        by_calls("200 narrow filled lines, by calls", filled_lines(size, 200, 0.04, 0.5)),
+        by_calls("100 rectangles, by calls", rectangles(size, 100)),
+        by_calls("64 labels, by calls", labels(size, 64)),
+        by_calls("a typical ticket, by calls", ticket(size)),
+    ]
+}
+
+/// Many calls that do little, by which a call's own cost shows.
+fn single_calls(size: Size) -> Vec<Class> {
+    let by_calls = |name, file| Class { name, size, goal: 0.0, file, by_calls: true };
+    vec![
+        by_calls("1,000 dots, by calls", dots(size, 1000)),
+        by_calls("1,000 short lines, by calls", short_lines(size, 1000)),
+        by_calls("400 lines outside, by calls", lines_outside(size, 400)),
+        by_calls("500 layers, by calls", layers(size, 500)),
+        by_calls("200 marker switches, by calls", markers(size, 200)),
     ]
 }
 
 /// Dots, cells and layers, each doubled, with everything else as it was.
 fn growth() -> Vec<Class> {
-    let class = |name, size, file| Class { name, size, goal: 1.0, file };
+    let class = |name, size, file| Class { name, size, goal: 1.0, file, by_calls: false };
     vec![
         class("50 lines of 400 dots", LARGE, long_lines(LARGE, 50)),
         class("100 lines of 400 dots", LARGE, long_lines(LARGE, 100)),
@@ -161,6 +186,25 @@ fn rectangles(size: Size, count: usize) -> Vec<u8> {
         let rectangle = [corner[0], corner[1], random.within(2.0, 60.0), random.within(2.0, 60.0)];
         file.draw(3, &rectangle, random.color());
     }
+    file.bytes
+}
+
+fn dots(size: Size, count: usize) -> Vec<u8> {
+    let mut random = Random(11);
+    let mut file = File::open(size, BRAILLE);
+    for _ in 0..count {
+        file.bytes.extend([9, 0b111]);
+        file.number(random.below(2 * u64::from(size.0)) as u32);
+        file.number(random.below(4 * u64::from(size.1)) as u32);
+        file.number(random.color());
+    }
+    file.bytes
+}
+
+fn short_lines(size: Size, count: usize) -> Vec<u8> {
+    let mut random = Random(12);
+    let mut file = File::open(size, BRAILLE);
+    (0..count).for_each(|_| file.short_line(&mut random));
     file.bytes
 }
 

@@ -195,8 +195,100 @@ static void test_get_point(void)
     expect("Custom has one dot a cell", point(2, 1, 8, 2, 0, dot) == MOSSBUCKLE_FOUND && dot[0] == 1 && dot[1] == 1);
 }
 
+/* Opens document 01's canvas of 2 by 1 with right and top 1, Dot. */
+static uint8_t open_example(mossbuckle_context *context)
+{
+    return mossbuckle_context_open(context, 2, 1, 0, 1, 0, 1, MOSSBUCKLE_DOT, ' ', MOSSBUCKLE_RESET);
+}
+
+/* What call lists do not reach: memory of just the size, colours that are none, a coordinate by itself. */
+static void test_context(void)
+{
+    const size_t room = MOSSBUCKLE_STORES_WORDS(2, 1);
+    const double coords[] = {0, 0, 1, 0, NAN};
+    mossbuckle_context context = mossbuckle_context_in(words(room, 0xFF), room), none, less = context;
+    uint64_t painted = 77;
+
+    none = mossbuckle_context_in(words(0, 0), 0);
+    less.cells_length--;
+    expect("the archive's layout", mossbuckle_layout() == MOSSBUCKLE_LAYOUT);
+    expect("5: a canvas that is not open", mossbuckle_context_layer(&context) == MOSSBUCKLE_REFUSED_STATE);
+    expect("5: stores one word short", open_example(&less) == MOSSBUCKLE_REFUSED_STATE);
+    expect("5: no memory for stores", open_example(&none) == MOSSBUCKLE_REFUSED_STATE);
+    expect("an opening with stores of just its size", open_example(&context) == MOSSBUCKLE_DONE);
+    expect("2: a refused line", mossbuckle_context_line(&context, 0, 0, INFINITY, 0, 255, &painted) == 2);
+    expect("the painted number of a refused line stays", painted == 77);
+    expect("points", mossbuckle_context_points(&context, coords, 4, 255, &painted) == 0 && painted == 2);
+    expect("a last coordinate by itself is not looked at",
+           mossbuckle_context_points(&context, coords, 5, 255, &painted) == 0 && painted == 2);
+    expect("2: one with another before it", mossbuckle_context_points(&context, coords + 1, 4, 255, &painted) == 2);
+    expect("a label without a colour", mossbuckle_context_print(&context, 0, 0, "a", 1, MOSSBUCKLE_NO_COLOUR) == 0);
+    expect("3: a label's colour",
+           mossbuckle_context_print(&context, 0, 0, "a", 1, MOSSBUCKLE_NO_COLOUR - 1) == MOSSBUCKLE_REFUSED_COLOUR);
+}
+
+static void test_render(void)
+{
+    const size_t room = MOSSBUCKLE_STORES_WORDS(2, 1), n = MOSSBUCKLE_SCREEN_WORDS(2, 1);
+    mossbuckle_context context = mossbuckle_context_in(words(room, 0xFF), room);
+    uint32_t *screen = words(n, 0), label_cells = 77, dot[2] = {77, 77};
+    uint64_t painted = 77;
+    uint8_t *out = fenced(strlen(LISTING), 0), status;
+
+    open_example(&context);
+    expect("a line", mossbuckle_context_line(&context, 0, 0, 1, 0, 255, &painted) == 0 && painted == 2);
+    status = mossbuckle_context_render(&context, 2, 1, 1, 0, screen, n, &painted, &label_cells);
+    expect("12: past an edge", status == MOSSBUCKLE_REFUSED_EDGE);
+    status = mossbuckle_context_render(&context, 2, 1, 0, 0, screen + 1, n - 1, &painted, &label_cells);
+    expect("13: a screen one word short", status == MOSSBUCKLE_REFUSED_SCREEN && screen[1] == 0 && label_cells == 77);
+    mossbuckle_blank(screen, n);
+    status = mossbuckle_context_render(&context, 2, 1, 0, 0, screen, n, &painted, &label_cells);
+    expect("a render", status == MOSSBUCKLE_DONE && painted == 2 && label_cells == 0);
+    expect("its screen is the example's",
+           wrote(mossbuckle_listing(2, 1, painted, screen, n, out, strlen(LISTING)), out, LISTING));
+    expect("6: a canvas that was rendered", mossbuckle_context_layer(&context) == MOSSBUCKLE_REFUSED_RENDERED);
+    status = mossbuckle_context_point(&context, 1, 0, &dot[0], &dot[1]);
+    expect("its dots can be asked for", status == MOSSBUCKLE_FOUND && dot[0] == 1 && dot[1] == 0);
+}
+
+/* Opens a canvas of these columns and one row in a list of words, with room for two. */
+static uint8_t open_words(uint64_t *canvas, size_t count, uint16_t columns)
+{
+    return mossbuckle_open(canvas, count, words(10, 0), 10, words(MOSSBUCKLE_LABELS_WORDS, 0),
+                           MOSSBUCKLE_LABELS_WORDS, columns, 1, 0, 1, 0, 1, MOSSBUCKLE_DOT, ' ', MOSSBUCKLE_RESET);
+}
+
+static uint8_t layer_words(uint64_t *canvas, size_t count)
+{
+    return mossbuckle_layer(canvas, count, words(10, 0), 10, words(MOSSBUCKLE_LABELS_WORDS, 0),
+                            MOSSBUCKLE_LABELS_WORDS);
+}
+
+/* A canvas as a list of words, at the list's ends. */
+static void test_words(void)
+{
+    const size_t n = MOSSBUCKLE_CANVAS_WORDS;
+    uint64_t *canvas = fenced(8 * n, 0xFF), *few = fenced(8 * (n - 1), 0), *more = fenced(8 * (n + 1), 0xFF);
+    size_t i, zeros = 0;
+
+    expect("an opening in just enough words", open_words(canvas, n, 2) == 0 && layer_words(canvas, n) == 0);
+    memcpy(few, canvas, 8 * (n - 1));
+    expect("5: a word too few", layer_words(few, n - 1) == MOSSBUCKLE_REFUSED_STATE);
+    expect("5: at an opening too, before its size", open_words(few, n - 1, 201) == MOSSBUCKLE_REFUSED_STATE);
+    expect("too few words are not written", memcmp(few, canvas, 8 * (n - 1)) == 0);
+    expect("5: no word at all", layer_words(few, 0) == MOSSBUCKLE_REFUSED_STATE);
+    expect("1: an opening's size", open_words(more, n + 1, 201) == MOSSBUCKLE_REFUSED_SIZE);
+    for (i = 0; i < n; i++)
+        zeros += more[i] == 0;
+    expect("a refused opening makes the words 0", zeros == n);
+    expect("and none past them", more[n] == UINT64_MAX);
+}
+
 int main(void)
 {
+    test_context();
+    test_render();
+    test_words();
     test_size();
     test_blank();
     test_draw();

@@ -3,7 +3,7 @@
 //!     picture list FILE     prints what the program layout prints for FILE
 //!     picture show FILE     prints what the program show prints
 //!     picture points FILE   prints what the program dots prints for the questions in FILE
-use mossbuckle::{get_point, Canvas, Picture};
+use mossbuckle::{get_point, Picture, View};
 use std::io::Write;
 
 fn float(bytes: &[u8]) -> f64 {
@@ -13,7 +13,7 @@ fn float(bytes: &[u8]) -> f64 {
 /// A question has columns and rows (2 bytes each), four bounds (8-byte floats), a marker (1), x and y (8-byte
 /// floats), little-endian.
 fn answer(q: &[u8]) -> String {
-    let canvas = Canvas {
+    let view = View {
         columns: u16::from_le_bytes([q[0], q[1]]),
         rows: u16::from_le_bytes([q[2], q[3]]),
         left: float(&q[4..12]),
@@ -22,10 +22,10 @@ fn answer(q: &[u8]) -> String {
         top: float(&q[28..36]),
         marker: q[36],
     };
-    match get_point(&canvas, float(&q[37..45]), float(&q[45..53])) {
+    match get_point(&view, float(&q[37..45]), float(&q[45..53])) {
         Ok(Some((column, row))) => format!("dot {column} {row}\n"),
         Ok(None) => "none\n".to_string(),
-        Err(refusal) => format!("{refusal}\n"),
+        Err(refusal) => format!("refused {}\n", refusal.number()),
     }
 }
 

@@ -1,13 +1,14 @@
 -- The numbers that an outcome sets, by case.
 use Prim.Native.Nat.{ℕ}
-use mathlib.Core.Path.{_≡_, refl, sym, _∙_}
+use mathlib.Core.Path.{_≡_, refl, sym, ap, _∙_}
+use mathlib.Core.List.{List}
 use lib.Ieee.{Float}
 use Rattle.ledger.specs.PointCall.{pointedOn}
 use Rattle.ledger.specs.declared.state.Canvas.{Canvas}
 use Rattle.ledger.specs.declared.state.Pointed.{Pointed}
-use Rattle.ledger.specs.declared.state.Pointed.the-variants as pointed
 use Rattle.picture.specs.declared.run.Drawn.{Drawn}
 use Rattle.picture.specs.declared.run.Drawn.the-variants as drawn
+use Rattle.words.specs.Words.{canvasOf}
 use Rattle.exports.specs.Draw.{drawStatus, paintedAfter, labelCellsAfter, placeAfter}
 use Rattle.exports.specs.GetPoint.{pointStatus, columnAfter, rowAfter, IsDot, IsNone}
 use Rattle.exports.proofs.Statuses.{zero-dot, last-none}
@@ -30,16 +31,11 @@ answered-refused painted labelCells place number at is e = rw (sym is ∙ e) (re
 abbrev Told : Pointed → ℕ → ℕ → ℕ → ℕ → ℕ → Type 0
 Told p column row r column′ row′ = (r ≡ pointStatus p) × ((column′ ≡ columnAfter p column) × (row′ ≡ rowAfter p row))
 
-pub told-refused : {p other : Pointed} (column row number : ℕ) → p ≡ other → p ≡ pointed.Refused number → Told other column row number column row
-told-refused column row number is e = rw (sym is ∙ e) (refl, (refl, refl))
-
-pub told-dot : {p other : Pointed} (column row column′ row′ : ℕ) → p ≡ other → p ≡ pointed.Dot column′ row′ → Told other column row 0 column′ row′
-told-dot column row column′ row′ is e = rw (sym is ∙ e) (refl, (refl, refl))
-
-pub told-none : {p other : Pointed} (column row : ℕ) → p ≡ other → p ≡ pointed.None → Told other column row 255 column row
-told-none column row is e = rw (sym is ∙ e) (refl, (refl, refl))
-
 -- with the two numbers that are no refusal's
 pub told : (c : Canvas) (x y : Float) (column row : ℕ) {r column′ row′ : ℕ} → Told (pointedOn c x y) column row r column′ row′
     → Told (pointedOn c x y) column row r column′ row′ × ((r ≡ 0 → IsDot (pointedOn c x y)) × (r ≡ 255 → IsNone (pointedOn c x y)))
 told c x y column row w = (w, (λ e. zero-dot c x y (sym (w .0) ∙ e), λ e. last-none c x y (sym (w .0) ∙ e)))
+
+-- ---- a point
+pub pointed-on : (words : List ℕ) (x y : Float) {c : Canvas} {p : Pointed} → c ≡ canvasOf words → p ≡ pointedOn c x y → p ≡ pointedOn (canvasOf words) x y
+pointed-on words x y loaded is = is ∙ ap (λ (k : Canvas). pointedOn k x y) loaded

@@ -1,4 +1,4 @@
--- The dot of a point on a canvas given by its numbers: document 01, 'From bounds to a dot', and 'Get_point (canvas alone, no store): 5; 2.'
+-- The dot of a point: document 01, 'From bounds to a dot', and 'Get_point (canvas alone, no store): 5; 2.' A canvas given by its numbers, and the outcome as numbers.
 use Prim.Native.Nat.{ℕ}
 use lib.Ieee.{Float}
 use Rattle.walk.specs.declared.clip.Bounds.{Bounds}

@@ -1,0 +1,2 @@
+-- Laws of the calls on lent words.
+mod LentCalls
