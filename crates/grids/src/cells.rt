@@ -1,6 +1,6 @@
 // The lent store of cells, CELL_WORDS words a cell. In each word 0 is nothing, and value + 1 is a
 // value. A cell by itself is read and written through load and store. Loops over many cells or dots
-// (in crates columns, layers, shapes and display) reach the words that they need by themselves, or
+// (in crates columns, layers, lines and display) reach the words that they need by themselves, or
 // lend a cell's to painting's ink, and test once how many cells the store has.
 ghost use mathlib.Core.Path.{_≡_};
 ghost use Rattle.grids.specs.Cells.{cellAt, putCell};

@@ -97,7 +97,7 @@ passesEdge columns rows a = ltb (a .columns) (a .x + columns) || ltb (a .rows) (
 abbrev pub badScreen : Area → List ℕ → Bool
 badScreen a words = not (eqb (length words) (a .columns * a .rows * screenWords))
 
--- ---- a call's refusal after 'state', by its arguments, the opening and what is held: closed, draws and dots, labels, the marker
+-- ---- a call's refusal after 'state', by its arguments, the opening and what is held: draws and dots accepted, labels, the marker
 unfoldable pub refusal : Opening → ℕ → ℕ → ℕ → Call → ℕ
 refusal o draws labels m (draw shape colour) = first ((badShape shape, 2) ∷ (badColour colour, 3) ∷ (leb maxDraws draws, 7) ∷ [])
 refusal o draws labels m (points pairs colour) = first ((badPairs pairs, 2) ∷ (badColour colour, 3) ∷ (leb maxDraws draws, 7) ∷ (ltb maxPairs (length pairs), 8) ∷ [])

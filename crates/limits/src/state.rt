@@ -1,4 +1,5 @@
-// The canvas by value, its answers, and the conditions on which a call is refused.
+// The conditions on which a canvas, a size, bounds, a colour, a point, a shape or a dot is refused: document
+// 01, 'Calls and refusals, in order'.
 use floats::domain::in_domain;
 use grids::markers::is_marker;
 use grids::painting::cell_count;

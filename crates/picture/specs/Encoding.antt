@@ -1,5 +1,5 @@
 -- A plain definition of writing a picture file: every field stands, but a label's colour that is none.
--- The theorem `RoundTrip` says that what it writes is read back, so that the format is pinned from both sides.
+-- The theorem `RoundTrip` says that what it writes is read back as the same opening and calls. Of files with absent fields it says nothing: their defaults are in `openingOf` and `callOf`.
 use Prim.Native.Nat.{ℕ, zero, suc, _/_, _%_, _<_, _≤_, _^_}
 use mathlib.Core.Path.{_≡_}
 use mathlib.Core.Bool.{true}

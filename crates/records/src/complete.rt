@@ -1,6 +1,6 @@
 // Records of lines, filled lines and circles that have all their fields, as most do: the fields then have
 // fixed places, and neither these nor the record's form need working out. Any other record is read field by
-// field in records.rt, and so is one of these that is refused for its form.
+// field in calls.rt; steps.rt refuses one of these that the file cuts short, or in a file that is too long.
 use canvas::calls::draw_refusal;
 use canvas::calls::drawn;
 use canvas::calls::painter_for;
