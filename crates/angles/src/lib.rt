@@ -1,5 +1,7 @@
 // The cosine and the sine of the circle's 360 angles, written out, since `cos` and `sin` compute each
 // in software. The proof computes the table again by the definitions of the polyfills.
+#![tactic(auto)]
+
 ghost use Rattle.std.specs.Prelude.{◌≡◌};
 ghost use Rattle.angles.specs.Angles.{angle_table};
 

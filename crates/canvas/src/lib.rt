@@ -3,4 +3,6 @@
 // says that the answer, the canvas and every lent list after it equal a definition of crate ledger; those
 // of draw_refusal, points_refusal, painter_for and drawn, parts of a call for the crates above, say so on
 // a condition.
+#![tactic(auto)]
+
 pub mod calls; // calls.rt: open, draw, dot, layer, marker, print, render, get_point

@@ -1,28 +1,29 @@
 // Prints every Braille, quadrant and sextant symbol by its pattern, to be held against the Unicode
 // charts: the stored output is made from the characters' names (tools/charts).
-use grids::symbols::symbol;
+#![tactic(auto)]
 
-fn line(pattern: u32, symbol: u32) {
-    io::print_decimal(1, pattern as u64);
-    io::write_all(1, b" ");
-    io::print_hex(1, symbol as u64, 4);
-    io::write_all(1, b"\n");
+use grids::symbols::symbol;
+use std::io;
+
+fn line(rt: &impl Print, pattern: u32, symbol: u32) -> io::Result<()> {
+    println!(rt; "{pattern} {symbol:04x}")
 }
 
 // The symbols of a marker's patterns, from one to before another.
-fn lines(marker: u8, first: u32, end: u32) {
+fn lines(rt: &impl Print, marker: u8, first: u32, end: u32) -> io::Result<()> {
     let mut pattern = first;
     while pattern < end {
-        line(pattern, symbol(marker, 0x20, pattern));
+        line(rt, pattern, symbol(marker, 0x20, pattern))?;
         pattern += 1;
     }
+    Ok(())
 }
 
-fn main() {
-    io::write_all(1, b"braille\n");
-    lines(1, 0, 256);
-    io::write_all(1, b"quadrant\n");
-    lines(6, 0, 16);
-    io::write_all(1, b"sextant\n");
-    lines(7, 1, 64);
+fn main(rt: HostRuntime) -> io::Result<()> {
+    println!(rt; "braille")?;
+    lines(&rt, 1, 0, 256)?;
+    println!(rt; "quadrant")?;
+    lines(&rt, 6, 0, 16)?;
+    println!(rt; "sextant")?;
+    lines(&rt, 7, 1, 64)
 }

@@ -1,5 +1,7 @@
 // A column of dots, filled a cell at a time: a cell's bits are set together and its ink once. So
 // painting a FilledLine (document 01, 'Shapes') takes a step for each cell, not for each dot.
+#![tactic(auto)]
+
 ghost use Rattle.std.specs.Prelude.{◌≡◌, true, ◌&&◌, ◌+◌, ◌-◌, ◌*◌, ◌/◌, ◌%◌, ◌<◌, ◌≤◌, ltb, leb, length};
 ghost use Rattle.grids.specs.Painting.{paint_dots, inked_cell};
 ghost use Rattle.columns.specs.Columns.{column_dots, is_char, column_mask, inked_down, braille_rows};

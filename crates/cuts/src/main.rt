@@ -1,7 +1,11 @@
 // Answers questions for a clipped line: each is four bounds (left, right, bottom, top) and a line's x1,
 // y1, x2, y2, as 8-byte floats, little-endian. The answer is a line: `line CUTS` or `none CUTS`, with
 // the number of cuts that clipping makes.
+#![tactic(auto)]
+
 use form::fields::{from_bits, number64};
+use std::io;
+use std::io::Read;
 use walk::clip::{Bounds, Clipped, Segment, clip_line};
 
 fn float_at(question: &[u8], at: usize) -> f64 {
@@ -30,37 +34,31 @@ fn line_of(question: &[u8]) -> Segment {
     Segment { x1, y1, x2, y2 }
 }
 
-fn print_answer(clipped: Clipped) -> bool {
-    match clipped {
-        Clipped::Line(_ends, cuts) => {
-            io::write_all(1, b"line ");
-            io::print_decimal(1, cuts as u64);
-        }
-        Clipped::NoLine(cuts) => {
-            io::write_all(1, b"none ");
-            io::print_decimal(1, cuts as u64);
-        }
-    }
-    io::write_all(1, b"\n")
+fn print_answer(rt: &impl Print, clipped: Clipped) -> bool {
+    let printed = match clipped {
+        Clipped::Line(_ends, cuts) => println!(rt; "line {cuts}"),
+        Clipped::NoLine(cuts) => println!(rt; "none {cuts}"),
+    };
+    printed.is_ok()
 }
 
 // One question. Answers whether another may follow.
-fn answer_question() -> bool {
+fn answer_question(rt: &(impl io::Input + Print)) -> bool {
     let mut question = [0u8; 64];
-    if io::read_full(0, &mut question) < 64 {
+    if rt.reader().read_exact(&mut question).is_err() {
         return false;
     }
     let bounds = bounds_of(&question);
     let line = line_of(&question);
     let clipped = clip_line(bounds, line);
-    print_answer(clipped)
+    print_answer(rt, clipped)
 }
 
 // The count ends the loop whatever is read.
-fn main() {
+fn main(rt: HostRuntime) {
     let mut left: u32 = 4294967295;
     while left > 0 {
-        if answer_question() {
+        if answer_question(&rt) {
             left -= 1;
         } else {
             return;

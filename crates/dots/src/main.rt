@@ -1,9 +1,13 @@
 // Answers questions for the dot of a point: each is a canvas' columns and rows (2 bytes each), its four
 // bounds (8-byte floats), its marker (1), and the point's x and y (8-byte floats), little-endian. The
 // answer is a line: `dot COLUMN ROW`, `none`, or `refused N`.
+#![tactic(auto)]
+
 use canvas::calls::get_point;
 use form::fields::{from_bits, number8, number16, number64};
 use ledger::state::{Canvas, Pointed};
+use std::io;
+use std::io::Read;
 use walk::clip::Bounds;
 
 fn float_at(question: &[u8], at: usize) -> f64 {
@@ -40,43 +44,33 @@ fn canvas_of(question: &[u8]) -> Canvas {
     }
 }
 
-fn print_answer(found: Pointed) -> bool {
-    match found {
-        Pointed::Refused(number) => {
-            io::write_all(1, b"refused ");
-            io::print_decimal(1, number as u64);
-        }
-        Pointed::Dot(column, row) => {
-            io::write_all(1, b"dot ");
-            io::print_decimal(1, column as u64);
-            io::write_all(1, b" ");
-            io::print_decimal(1, row as u64);
-        }
-        Pointed::None => {
-            io::write_all(1, b"none");
-        }
-    }
-    io::write_all(1, b"\n")
+fn print_answer(rt: &impl Print, found: Pointed) -> bool {
+    let printed = match found {
+        Pointed::Refused(number) => println!(rt; "refused {number}"),
+        Pointed::Dot(column, row) => println!(rt; "dot {column} {row}"),
+        Pointed::None => println!(rt; "none"),
+    };
+    printed.is_ok()
 }
 
 // One question. Answers whether another may follow.
-fn answer_question() -> bool {
+fn answer_question(rt: &(impl io::Input + Print)) -> bool {
     let mut question = [0u8; 53];
-    if io::read_full(0, &mut question) < 53 {
+    if rt.reader().read_exact(&mut question).is_err() {
         return false;
     }
     let canvas = canvas_of(&question);
     let x = float_at(&question, 37);
     let y = float_at(&question, 45);
     let found = get_point(canvas, x, y);
-    print_answer(found)
+    print_answer(rt, found)
 }
 
 // The count ends the loop whatever is read.
-fn main() {
+fn main(rt: HostRuntime) {
     let mut left: u32 = 4294967295;
     while left > 0 {
-        if answer_question() {
+        if answer_question(&rt) {
             left -= 1;
         } else {
             return;

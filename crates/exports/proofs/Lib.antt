@@ -1,4 +1,3 @@
--- Laws of the part of a screen that is lent, of the numbers that an outcome sets, and of those that are no refusal's.
+-- Laws of the part of a screen that is lent, and of the numbers that are no refusal's.
 mod Onto
 mod Statuses
-mod Outcomes

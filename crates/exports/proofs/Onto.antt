@@ -21,20 +21,10 @@ module _ (file cells labels screen : List ℕ) (widest highest : ℕ) {n size : 
   pub drawn-part : {drawn : Drawn} → drawn ≡ (picture_of file widest highest cells labels (take n screen)).drawn → drawn ≡ (picture_onto file widest highest cells labels screen).drawn
   drawn-part e = e ∙ ap (λ (p : Picture). p.drawn) on-part
 
-  pub left-part : {cells' labels' screen' : List ℕ}
-      → (cells' ≡ (picture_of file widest highest cells labels (take n screen)).state.cells)
-      × ((labels' ≡ (picture_of file widest highest cells labels (take n screen)).state.labels)
-      × (screen' ≡ (picture_of file widest highest cells labels (take n screen)).screen))
-      → (cells' ≡ (picture_onto file widest highest cells labels screen).state.cells)
-      × ((labels' ≡ (picture_onto file widest highest cells labels screen).state.labels)
-      × (screen' ++ drop n screen ≡ screen_after file widest highest cells labels screen))
-  left-part w = (
-    w.0 ∙ ap (λ (p : Picture). p.state.cells) on-part,
-    (
-      w.1.0 ∙ ap (λ (p : Picture). p.state.labels) on-part,
-      ap (λ (l : List ℕ). l ++ drop n screen) (w.1.1 ∙ ap (λ (p : Picture). p.screen) on-part) ∙ ap (λ (l : List ℕ). (picture_onto file widest highest cells labels screen).screen ++ l) rest,
-    ),
-  )
+  pub screen-part : {screen' : List ℕ} → screen' ≡ (picture_of file widest highest cells labels (take n screen)).screen → screen' ++ drop n screen ≡ screen_after file widest highest cells labels screen
+  screen-part e =
+      ap (λ (l : List ℕ). l ++ drop n screen) (e ∙ ap (λ (p : Picture). p.screen) on-part)
+      ∙ ap (λ (l : List ℕ). (picture_onto file widest highest cells labels screen).screen ++ l) rest
 
 pub refused-kept : (file cells labels screen : List ℕ) (widest highest number at : ℕ) → (picture_onto file widest highest cells labels screen).drawn ≡ Refused number at
     → screen_after file widest highest cells labels screen ≡ screen

@@ -1,6 +1,6 @@
 -- 0 is the number of no refusal, of a picture file or of a point, and 255 of no refused point.
 use Prim.Native.Nat.{ℕ, zero, suc}
-use mathlib.Core.Path.{◌≡◌}
+use mathlib.Core.Path.{◌≡◌, sym, ◌∙◌}
 use mathlib.Core.Bool.{Bool, true, false, cond}
 use mathlib.Core.List.{List, [], ◌∷◌}
 use native.Mathlib.Omega.{arith}
@@ -18,7 +18,7 @@ use Rattle.ledger.specs.Outcomes.{accepted_answer, answer_unless, answer_on}
 use Rattle.ledger.specs.PointCall.{point_refusal, pointed_to, pointed_unless, pointed_on}
 use Rattle.ledger.specs.declared.state.Canvas.{Canvas}
 use Rattle.form.specs.Forms.{opening_end, record_end}
-use Rattle.picture.specs.Run.{Ended, opening_refusal, opened_state, run_from, records_from, area_of, drawn_of, picture_by, ended, picture_of}
+use Rattle.picture.specs.Run.{Ended, opening_refusal, opened_state, run_from, area_of, drawn_of, picture_by, ended, picture_of}
 use Rattle.records.specs.Steps.{refusal_at, record_state}
 use Rattle.picture.specs.declared.run.Stop.{Stop}
 use Rattle.picture.specs.declared.run.Stop.TheVariants as stop
@@ -74,7 +74,7 @@ module _ (file : List ℕ) (widest highest : ℕ) (cells labels screen : List �
 -- ---- a point
 
 module _ (c : Canvas) (x y : Float) where
-  pub zero-dot : point_status (pointed_on c x y) ≡ 0 → IsDot (pointed_on c x y)
+  zero-dot : point_status (pointed_on c x y) ≡ 0 → IsDot (pointed_on c x y)
   unfolding pointed_on point_refusal
   zero-dot = go (bad_canvas c) (bad_point x y) (point_of (view_of c.bounds c.columns c.rows c.marker) x y)
     where
@@ -85,7 +85,7 @@ module _ (c : Canvas) (x y : Float) where
       go false false (At column row) e = tt
       go false false Nowhere e = omega arith
 
-  pub last_none : point_status (pointed_on c x y) ≡ 255 → IsNone (pointed_on c x y)
+  last_none : point_status (pointed_on c x y) ≡ 255 → IsNone (pointed_on c x y)
   unfolding pointed_on point_refusal
   last_none = go (bad_canvas c) (bad_point x y) (point_of (view_of c.bounds c.columns c.rows c.marker) x y)
     where
@@ -95,3 +95,6 @@ module _ (c : Canvas) (x y : Float) where
       go false true found e = omega arith
       go false false (At column row) e = omega arith
       go false false Nowhere e = tt
+
+  pub told : {r : ℕ} → r ≡ point_status (pointed_on c x y) → (r ≡ 0 → IsDot (pointed_on c x y)) × (r ≡ 255 → IsNone (pointed_on c x y))
+  told is = (λ e. zero-dot (sym is ∙ e), λ e. last_none (sym is ∙ e))

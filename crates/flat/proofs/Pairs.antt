@@ -1,20 +1,14 @@
 -- The pairs of a flat list by their places: for the loops that go over it.
-use Prim.Native.Nat.{ℕ, zero, suc, ◌+◌, ◌*◌, ◌/◌, ◌≤◌, ◌<◌}
-use mathlib.Core.Path.{◌≡◌, refl, sym, ap, ◌∙◌}
-use mathlib.Core.Bool.{Bool, true, false, ◌||◌}
-use mathlib.Core.List.{List, [], ◌∷◌}
-use native.Mathlib.Omega.{arith}
-use lib.Ieee.{Float}
-use lib.ListN.{length, get_or, drop, take, drop_of_length-le}
+use Rattle.std.proofs.Common.{ℕ, zero, suc, ◌+◌, ◌*◌, ◌/◌, ◌≤◌, ◌<◌, ◌≡◌, refl, Bool, true, false, List, [], ◌∷◌, arith, length, get_or, drop, take, Float}
+use Rattle.std.proofs.lemmas.List.{take_all}
 use Rattle.shapes.specs.declared.painters.Pair.{Pair}
 use Rattle.lines.specs.declared.painter.Painter.{Painter}
 use Rattle.lines.proofs.PaintedDots.{Painted}
 use Rattle.view.specs.Point.{point_of}
 use Rattle.shapes.specs.Shapes.{point_dots, pair_dots}
-use Rattle.shapes.proofs.PaintLists.{pair-next, point-le}
-use Rattle.view.specs.declared.point.View.{View}
+use Rattle.shapes.proofs.PaintLists.{pair-next}
 use Rattle.ledger.specs.Calls.{bad_point, bad_pairs}
-use Rattle.pairs.proofs.PairScans.{bad-pairs-from}
+use Rattle.pairs.proofs.PairScans as scans
 use Rattle.flat.specs.Flat.{pairs_of}
 
 pub length_pairs : (coords : List Float) → length (pairs_of coords) ≡ length coords / 2
@@ -35,23 +29,23 @@ pair-at (x ∷ y ∷ rest) d e (suc i) h =
 -- ---- looked through from the first on
 module _ (coords : List Float) (e : Float) (i : ℕ) (t : Bool) (h : i < length coords / 2) (so_far : bad_pairs (pairs_of coords) ≡ bad_pairs (drop i (pairs_of coords)))
     (is : t ≡ bad_point (get_or coords (2 * i) e) (get_or coords (2 * i + 1) e)) where
-  next : bad_pairs (pairs_of coords) ≡ t || bad_pairs (drop (i + 1) (pairs_of coords))
-  next =
-      let d : Pair = record { x = e; y = e } in
-      let l : i < length (pairs_of coords) = omega (arith, length_pairs coords) in
-      so_far ∙ bad-pairs-from (pairs_of coords) d i l ∙ rw (pair-at coords d e i l, is)
+  abbrev d : Pair
+  d = record { x = e; y = e }
+
+  within : i < length (pairs_of coords)
+  within = omega (arith, length_pairs coords)
+
+  is' : t ≡ bad_point (get_or (pairs_of coords) i d).x (get_or (pairs_of coords) i d).y
+  is' = rw (pair-at coords d e i within) is
 
   pub some-bad : t ≡ true → true ≡ bad_pairs (pairs_of coords)
-  some-bad bad = sym (next ∙ rw bad)
+  some-bad = scans.some-bad (pairs_of coords) d i t within so_far is'
 
   pub none-bad : t ≡ false → bad_pairs (pairs_of coords) ≡ bad_pairs (drop (i + 1) (pairs_of coords))
-  none-bad good = next ∙ rw good
+  none-bad = scans.none-bad (pairs_of coords) d i t within so_far is'
 
-pub over : (coords : List Float) (i : ℕ) → length coords / 2 ≤ i → bad_pairs (pairs_of coords) ≡ bad_pairs (drop i (pairs_of coords)) → false ≡ bad_pairs (pairs_of coords)
-unfolding bad_pairs
-over coords i h so_far =
-    let l : length (pairs_of coords) ≤ i = omega (arith, length_pairs coords) in
-    sym (so_far ∙ rw (drop_of_length-le (pairs_of coords) l))
+pub past-all : (coords : List Float) (i : ℕ) → length coords / 2 ≤ i → bad_pairs (pairs_of coords) ≡ bad_pairs (drop i (pairs_of coords)) → false ≡ bad_pairs (pairs_of coords)
+past-all coords i h so_far = scans.past-all (pairs_of coords) i (omega (arith, length_pairs coords)) so_far
 
 -- ---- painted one after the other
 pub paint-next : (p : Painter) (coords : List Float) (e : Float) (before between after : List ℕ) (i m n : ℕ) → i < length coords / 2
@@ -68,14 +62,4 @@ pub painted-over : (p : Painter) (coords : List Float) (before after : List ℕ)
     → Painted p before (pair_dots p.view (take i (pairs_of coords))) m after → Painted p before (pair_dots p.view (pairs_of coords)) m after
 painted-over p coords before after i m h f =
     let l : length (pairs_of coords) ≤ i = omega (arith, length_pairs coords) in
-    rw (take_all (pairs_of coords) i l) at f
-  where
-    take_all : (ps : List Pair) (k : ℕ) → length ps ≤ k → take k ps ≡ ps
-    take_all [] zero h = refl
-    take_all [] (suc k) h = refl
-    take_all (q ∷ ps) zero h = absurd (omega arith)
-    take_all (q ∷ ps) (suc k) h = ap (λ (r : List Pair). q ∷ r) (take_all ps k (omega arith))
-
--- at most one dot a pair
-pub one-dot : (v : View) (x y : Float) (n : ℕ) → n ≡ length (point_dots (point_of v x y)) → n ≤ 1
-one-dot v x y n h = point-le (point_of v x y) n h
+    rw (take_all i (pairs_of coords) l) at f

@@ -1,5 +1,7 @@
 // Points over coordinate pairs that are lent as a flat list of floats, x and y by turns; a last float by
 // itself is not looked at.
+#![tactic(auto)]
+
 ghost use Rattle.std.specs.Prelude.{◌≡◌, length};
 ghost use Rattle.shapes.specs.Shapes.{pair_dots};
 ghost use Rattle.lines.specs.Painted.{painted_by};

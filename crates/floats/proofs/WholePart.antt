@@ -1,7 +1,7 @@
 -- A float's whole part by one shift of its digits, which stand at the top of a word under a leading one: from 1 on and below 2 ^ 53 its exponent field is 1023 to 1075, so the shift goes down by 11 to 63.
 -- From a quarter to 1 the field is 1021 or 1022, and the same shift leaves 0: so neither end need be tested where the whole part is known to be small.
 -- Below 2 ^ w a float is below 2 ^ (w + 1074) in units of 2 ^ -1074. `to_bits` drops all but 53 of those digits, and the leading one of the rest adds one to the field.
-use Rattle.std.proofs.Common.{◌≡◌, ℕ, zero, suc, ◌+◌, ◌-◌, ◌*◌, ◌/◌, ◌%◌, ◌^◌, ◌<◌, ◌≤◌, min, Bool, true, false, not, T, pos, sym, refl, ap, ◌∙◌, subst, le_trans, le_of_eq, lt_of_lt_of_le, lt_of_le_of_lt, lt_irrefl, mul-le-mul_right, mod-lt, div-lt_iff_lt-mul, lt_of_mul-lt-mul_right, mul-lt-mul_of_pos_right, one-mul, lt_of_not-le, le-div_iff_mul-le, mul-one, mul_right_comm, arith, lit<, lit≤, ltb→lt, lt→ltb, pow_pos, pow_mono, pow-add, shr-shr, ltb-false, leb-false}
+use Rattle.std.proofs.Common.{◌≡◌, ℕ, zero, suc, ◌+◌, ◌-◌, ◌*◌, ◌/◌, ◌%◌, ◌^◌, ◌<◌, ◌≤◌, min, Bool, true, false, not, T, pos, sym, refl, ap, ◌∙◌, subst, le_trans, le_of_eq, lt_of_lt_of_le, lt_of_le_of_lt, lt_irrefl, mul-le-mul_right, mod-lt, div-lt_iff_lt-mul, lt_of_mul-lt-mul_right, mul-lt-mul_of_pos_right, one-mul, lt_of_not-le, le-div_iff_mul-le, mul-one, mul_right_comm, arith, lit≤, ltb→lt, lt→ltb, pow_pos, pow_mono, pow-add, shr-shr, ltb-false, leb-false}
 use native.Mathlib.Nat.{div-eq_of_lt}
 use lib.Pow.{shl-shr}
 use lib.Bits.{bit_and, bit_or, and_mask, or_block, or_shifted_r, or_zero_r}
@@ -10,7 +10,7 @@ use lib.Ieee.Digits.{size-le, size-lt}
 use lib.Ieee.Fits.{down_pos, kept-lt}
 use lib.Ieee.Exact.{HasValue}
 use lib.Ieee.Positive.{above, above_of_le, first_pos, le→cross}
-use Rattle.std.proofs.num.Truncating.{at_least_one, under_one, below_one, is_no_nan, down_by, cut_down}
+use Rattle.std.proofs.num.Truncating.{at_least_one, under_one, below_one, is_no_nan, cut_down}
 use Rattle.floats.specs.Arithmetic.{◌⊕◌}
 use Rattle.floats.specs.Truncation.{as_unsigned}
 use Rattle.floats.specs.Polyfills.{round_of, 0·25, 0·5, 1·0}

@@ -6,21 +6,21 @@ ghost use Rattle.floats.specs.Domain.{in_domain};
 ghost use Rattle.form.specs.Fields.{little, number_at, stands, width_in, number_in, float_in};
 
 // A byte's field, and the place after it.
-#[derive(Drop)]
+#[derive(Clone, Copy)]
 pub struct Byte {
     pub value: u8,
     pub end: usize,
 }
 
 // A number's field, and the place after it.
-#[derive(Drop)]
+#[derive(Clone, Copy)]
 pub struct Number {
     pub value: u32,
     pub end: usize,
 }
 
 // A float's field, and the place after it.
-#[derive(Drop)]
+#[derive(Clone, Copy)]
 pub struct Real {
     pub value: f64,
     pub end: usize,

@@ -182,7 +182,7 @@ fn map_end(kind: u8) -> u8
 
 // A record's refusal by the form of its bytes, or 0; with 0 the place after the record, so that the
 // size of its fields is worked out once.
-#[derive(Drop)]
+#[derive(Clone, Copy)]
 pub struct Form {
     pub number: u8,
     pub end: usize,

@@ -1,5 +1,5 @@
 -- A dot of a HalfBlock grid set by the one word of its half is its cell put: the other four words are put as they are.
-use Prim.Native.Nat.{ℕ, ◌+◌, ◌*◌, ◌/◌, ◌%◌, ◌<◌, ◌≤◌, min}
+use Prim.Native.Nat.{ℕ, ◌+◌, ◌*◌, ◌/◌, ◌%◌, min}
 use mathlib.Core.Path.{◌≡◌, refl, sym}
 use mathlib.Core.Bool.{Bool, true, false, cond}
 use mathlib.Core.List.{List}
@@ -12,7 +12,7 @@ use borrow.Author.Tests.{ltb-true, ltb-false, lt-ltb, le-ltb, eqb-true, eqb-fals
 use Rattle.grids.specs.Markers.{dot_size}
 use Rattle.grids.specs.Dots.{cell_index}
 use Rattle.grids.specs.Cells.{words_at, put_words, blank_cell, cell_at, put_cell}
-use Rattle.grids.specs.Painting.{with_grid, painted_cell, paint_of, cells_held, half_dot, HalfPaints}
+use Rattle.grids.specs.Painting.{with_grid, painted_cell, paint_of, half_dot, HalfPaints}
 use Rattle.grids.proofs.DotSizes.{cell-index-by}
 
 module _ (cells : List ℕ) (i word : ℕ) where

@@ -9,7 +9,7 @@ pub const CELL_WORDS: usize = 5;
 
 // A cell: the composed picture's symbol and colours, then what the grid being drawn holds. That is a
 // pattern of dots and the last one's ink; on a HalfBlock grid the upper dot's ink and the lower's.
-#[derive(Drop)]
+#[derive(Clone, Copy)]
 pub struct Cell {
     pub symbol: u32,
     pub foreground: u32,

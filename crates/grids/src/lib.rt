@@ -2,6 +2,8 @@
 // (PatternGrid, CharGrid and HalfBlockGrid of src/canvas.rs in ratatui-widgets). Crates columns and
 // layers above it fill columns, and lay a grid over the picture. Every public function is total; its
 // contract says that the answer, and the store after it, equal a definition in specs/.
+#![tactic(auto)]
+
 pub mod cells; // cells.rt: the store, read and written a cell at a time
 pub mod layer; // layer.rt: what a layer sets in a cell
 pub mod markers; // markers.rt: which markers there are, and their dots in a cell

@@ -4,7 +4,7 @@ ghost use Rattle.std.specs.Prelude.{◌≡◌};
 ghost use Rattle.grids.specs.Markers.{dot_size, is_plain, is_scalar, is_marker, resolution_of};
 
 // A number of columns and of rows.
-#[derive(Drop)]
+#[derive(Clone, Copy)]
 pub struct Size {
     pub columns: u32,
     pub rows: u32,

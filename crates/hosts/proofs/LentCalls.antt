@@ -97,12 +97,12 @@ module _ (h : Host) (c : Call) {canvas : Canvas} {called : Called} (loaded : can
   marked reads e w = record {
     answered = answered w;
     cells_left = e ∙ ap (λ (k : Canvas). (state_after (given k h.cells h.labels) c).cells) loaded;
-    labels-left = labels-stay (state_of h) c reads;
+    labels_left = labels-stay (state_of h) c reads;
   }
 
   pub drawn : (before : ℕ) {r : ℕ} {words cells : List ℕ} {painted : ℕ} → ReadsLabels c → cells ≡ (state_after (given canvas h.cells h.labels) c).cells
-      → Finished h called r words × (painted ≡ painted_after before called.answer) → Drawn h c before r words cells painted
-  drawn before reads e w = record { marked = marked reads e w.0; painted-left = w.1 ∙ ap (λ (d : Called). painted_after before d.answer) called_on_lem }
+      → Finished h called r words → painted ≡ painted_after before called.answer → Drawn h c before r words cells painted
+  drawn before reads e w p = record { marked = marked reads e w; painted_left = p ∙ ap (λ (d : Called). painted_after before d.answer) called_on_lem }
 
 -- ---- a print: the labels are written, and the cells read
 module _ (h : Host) (x y : Float) (text : List ℕ) (choice : Choice) {canvas : Canvas} {called : Called} (loaded : canvas ≡ canvas_of h.words)
@@ -113,7 +113,7 @@ module _ (h : Host) (x y : Float) (text : List ℕ) (choice : Choice) {canvas : 
   printed e w = record {
     answered = answered h (print x y text choice) loaded is w;
     cells_left = cells_stay (state_of h) x y text choice;
-    labels-left = e ∙ ap (λ (k : Canvas). (state_after (given k h.cells h.labels) (print x y text choice)).labels) loaded;
+    labels_left = e ∙ ap (λ (k : Canvas). (state_after (given k h.cells h.labels) (print x y text choice)).labels) loaded;
   }
 
 -- ---- a render: the screen and both numbers
@@ -121,19 +121,19 @@ module _ (h : Host) (area : Area) (screen : List ℕ) {canvas : Canvas} {called 
     (is : called ≡ called_on (given canvas h.cells h.labels) (render area screen)) where
   pub rendered : (before cells_before : ℕ) {r : ℕ} {words cells screen_after : List ℕ} {painted label_cells : ℕ}
       → (cells ≡ (state_after (given canvas h.cells h.labels) (render area screen)).cells) × (screen_after ≡ screen_on (given canvas h.cells h.labels) area screen)
-      → label_cells ≡ label_cells_after cells_before called.answer → Finished h called r words × (painted ≡ painted_after before called.answer)
+      → label_cells ≡ label_cells_after cells_before called.answer → Finished h called r words → painted ≡ painted_after before called.answer
       → Rendered h area screen before cells_before r words cells screen_after painted label_cells
-  rendered before cells_before e l w = record {
-    drawn = drawn h (render area screen) loaded is before tt e.0 w;
-    screen-left = e.1 ∙ ap (λ (k : Canvas). screen_on (given k h.cells h.labels) area screen) loaded;
-    label-cells-left = l ∙ ap (λ (d : Called). label_cells_after cells_before d.answer) (called_on_lem h (render area screen) loaded is);
+  rendered before cells_before e l w p = record {
+    drawn = drawn h (render area screen) loaded is before tt e.0 w p;
+    screen_left = e.1 ∙ ap (λ (k : Canvas). screen_on (given k h.cells h.labels) area screen) loaded;
+    label_cells_left = l ∙ ap (λ (d : Called). label_cells_after cells_before d.answer) (called_on_lem h (render area screen) loaded is);
   }
 
 -- ---- an opening
 module _ (h : Host) (o : Opening) where
   pub opened-short : short_words h.words ≡ true → Opened h o 5 h.words h.cells
   unfolding host_open_refusal host_opened all_words
-  opened-short e = record { status = rw e; words_left = rw e; cells_left = rw e; labels-left = refl }
+  opened-short e = record { status = rw e; words_left = rw e; cells_left = rw e; labels_left = refl }
 
   pub opened-long : {called : Called} {r : ℕ} {words cells : List ℕ} → short_words h.words ≡ false → called ≡ open_called o h.cells (length h.labels)
       → cells ≡ open_cells o h.cells (length h.labels) → words ≡ all_words h.words called.canvas → r ≡ status_of called.answer → Opened h o r words cells
@@ -142,5 +142,5 @@ module _ (h : Host) (o : Opening) where
     status = rw e (status-is ∙ ap (λ (d : Called). status_of d.answer) is ∙ open-status (open_refusal o (length h.cells) (length h.labels)));
     words_left = words-is ∙ ap (λ (d : Called). all_words h.words d.canvas) is;
     cells_left = rw e cells_is;
-    labels-left = refl;
+    labels_left = refl;
   }

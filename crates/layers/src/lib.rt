@@ -1,6 +1,8 @@
 // What the grid being drawn sets in the picture, and the loops over a canvas' cells: save, reset, both
 // for a finished layer, and blank (the grids' `save` and `reset` of src/canvas.rs in ratatui-widgets).
 // In a LayerCell, as in the store, a word of 0 sets nothing and value + 1 sets a value.
+#![tactic(auto)]
+
 ghost use Rattle.std.specs.Prelude.{◌≡◌, true, ◌&&◌, ◌||◌, List, ℕ, suc, ◌+◌, ◌*◌, ◌/◌, ◌%◌, ◌^◌, ◌≤◌, ◌<◌, min, eqb, length};
 ghost use Rattle.grids.specs.Lists.{over};
 ghost use Rattle.grids.specs.Symbols.{symbol_of};

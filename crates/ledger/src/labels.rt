@@ -1,7 +1,7 @@
 // What a label is printed in.
 
 // A label's colour, or none.
-#[derive(Drop)]
+#[derive(Clone, Copy)]
 pub enum Choice {
     Nothing,
     Colour(u32),

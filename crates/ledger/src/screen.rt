@@ -1,7 +1,7 @@
 // The screen that a canvas is rendered on.
 
 // A screen's size in cells, and the corner of the canvas' area on it.
-#[derive(Drop)]
+#[derive(Clone, Copy)]
 pub struct Area {
     pub columns: u16,
     pub rows: u16,
@@ -10,7 +10,7 @@ pub struct Area {
 }
 
 // A cell of the screen: plain values.
-#[derive(Drop)]
+#[derive(Clone, Copy)]
 pub struct ScreenCell {
     pub symbol: u32,
     pub foreground: u32,

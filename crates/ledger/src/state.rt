@@ -5,7 +5,7 @@ use walk::clip::Bounds;
 // drawn; whether that grid is dirty, and whether the canvas was rendered; labels held, draws and
 // dots accepted, and dots painted. The wider fields stand first, so that no gap lies between them: a
 // call copies the canvas, and its gaps would be copied byte by byte.
-#[derive(Drop)]
+#[derive(Clone, Copy)]
 pub struct Canvas {
     pub bounds: Bounds,
     pub painted: u64,
@@ -22,7 +22,7 @@ pub struct Canvas {
 
 // A call's answer: refused, with document 01's number; the dots painted; done; or rendered, with the
 // dots painted in all and the cells that labels took.
-#[derive(Drop)]
+#[derive(Clone, Copy)]
 pub enum Answer {
     Refused(u8),
     Painted(u64),
@@ -31,14 +31,14 @@ pub enum Answer {
 }
 
 // The canvas after a call, and its answer.
-#[derive(Drop)]
+#[derive(Clone, Copy)]
 pub struct Called {
     pub canvas: Canvas,
     pub answer: Answer,
 }
 
 // What get_point answers.
-#[derive(Drop)]
+#[derive(Clone, Copy)]
 pub enum Pointed {
     Refused(u8),
     Dot(u16, u16),

@@ -1,5 +1,5 @@
 -- The loop over a walk: a turn of it, and that the whole walk is the line.
-use Rattle.std.proofs.Common.{◌≡◌, ℕ, ◌+◌, List, [], ◌∷◌, sym, refl, ap, ◌∙◌, add-one}
+use Rattle.std.proofs.Common.{◌≡◌, ℕ, ◌+◌, List, [], ◌∷◌, ap, ◌∙◌, add-one}
 use Rattle.walk.specs.Line.{line_dots}
 use Rattle.walk.specs.Walk.{Fits16, walk_of, count_of, dot_of, step_of, steps, walk_dots}
 use Rattle.walk.specs.declared.bresenham.Ends.{Ends}

@@ -1,6 +1,8 @@
 // Dots, lines and filled lines painted for a painter (Painter::paint of src/canvas.rs and
 // src/canvas/line.rs in ratatui-widgets). Every public function is total; its contract says that the
 // answer, and the store after it, equal a definition in specs/.
+#![tactic(auto)]
+
 pub mod fills; // fills.rt: a column of dots, and a line filled to a row
 mod held; // held.rt: the dots of a line whose cells the store has
 pub mod painter; // painter.rt: where a draw paints, and one dot

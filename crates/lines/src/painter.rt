@@ -7,7 +7,7 @@ use grids::painting::{cells_held, paint, paint_braille, paint_half, paint_plain}
 use view::point::View;
 
 // The view, the canvas' size and marker, and the ink's word.
-#[derive(Drop)]
+#[derive(Clone, Copy)]
 pub struct Painter {
     pub view: View,
     pub columns: u16,

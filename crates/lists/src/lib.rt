@@ -1,5 +1,7 @@
 // Lists of coordinate pairs in the bytes of a points record: looked through, and painted. Every public
 // function is total; its contract equals a definition in specs/.
+#![tactic(auto)]
+
 ghost use Rattle.std.specs.Prelude.{◌≡◌, ◌+◌, ◌-◌, ◌*◌, ◌≤◌, min, length, take};
 ghost use Rattle.shapes.specs.Shapes.{pair_dots};
 ghost use Rattle.lines.specs.Painted.{painted_by};

@@ -1,6 +1,3 @@
--- Laws of the walks over a lent list of pairs.
-pub mod LentAgain
-pub mod LentPrefix
-pub mod Callee
+-- Laws of lists of pairs: scanned, and the two ways of a call of points.
 pub mod PairScans
 pub mod PointsSteps

@@ -12,7 +12,7 @@ use records::steps::{Step, Taken, step_of};
 use walk::clip::Bounds;
 
 // The opening's fields, and the place after them.
-#[derive(Drop)]
+#[derive(Clone, Copy)]
 struct Fields {
     bounds: Bounds,
     marker: u8,

@@ -11,14 +11,14 @@ use records::steps::{Step, take_record};
 
 // Where the records end: at the file's end, or at a refusal with its number and the place of the
 // record's first byte.
-#[derive(Drop)]
+#[derive(Clone, Copy)]
 pub enum Stop {
     End,
     Refused(u8, usize),
 }
 
 // The canvas after the records, and where they ended.
-#[derive(Drop)]
+#[derive(Clone, Copy)]
 pub struct Ran {
     pub canvas: Canvas,
     pub stop: Stop,
@@ -26,7 +26,7 @@ pub struct Ran {
 
 // What a whole file comes to: shown, with the dots painted and the cells that labels took; or
 // refused, with the number and the place of the record's first byte.
-#[derive(Drop)]
+#[derive(Clone, Copy)]
 pub enum Drawn {
     Shown(u64, u32),
     Refused(u8, usize),

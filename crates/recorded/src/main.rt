@@ -2,14 +2,17 @@
 // (length of 1 byte), the file (length of 4 bytes) and what the Rust gave for it, in the form that
 // `layout` prints (length of 4 bytes). Prints the name of each file for which `layout` would print
 // something else, and how many agree.
+#![tactic(auto)]
+
 ghost use Rattle.std.specs.Prelude.{◌<◌};
 
 use bundle::{read_file, read_name_length, read_part};
 use report::program::print_layout;
+use std::io;
 use streams::print;
 
 // What the replay of a file comes to.
-#[derive(Drop)]
+#[derive(Clone, Copy)]
 enum Replayed {
     Agrees,
     Differs,
@@ -17,7 +20,7 @@ enum Replayed {
 }
 
 // How many agree, how many differ, and whether the bundle goes on.
-#[derive(Drop)]
+#[derive(Clone, Copy)]
 struct Tally {
     agree: u32,
     differ: u32,
@@ -50,14 +53,14 @@ fn compared(file: &[u8], answer: &[u8]) -> Replayed {
 
 // The file and its answer from the bundle. A file that fills the buffer is refused with 17 whatever
 // follows.
-fn replay() -> Replayed {
+fn replay(rt: &(impl io::Input + Eprint)) -> Replayed {
     let mut file = [0u8; 65537];
-    let given = read_file(b"recorded", &mut file);
+    let given = read_file(rt, b"recorded", &mut file);
     if given.failed {
         return Replayed::Unread;
     }
     let mut answer = [0u8; 65536];
-    let wanted = read_file(b"recorded", &mut answer);
+    let wanted = read_file(rt, b"recorded", &mut answer);
     if wanted.failed {
         return Replayed::Unread;
     }
@@ -66,32 +69,32 @@ fn replay() -> Replayed {
     compared(&file[..n], &answer[..m])
 }
 
-fn print_difference(name: &[u8]) {
-    io::write_all(1, b"differs: ");
-    io::write_all(1, name);
-    print(b"recorded", b"\n");
+fn print_difference(rt: &(impl Print + Eprint), name: &[u8]) {
+    let _ = rt.write_all(b"differs: ");
+    let _ = rt.write_all(name);
+    print(rt, b"recorded", b"\n");
 }
 
 // One file of the bundle.
-fn replay_next(t: Tally) -> Tally {
-    let length = read_name_length(b"recorded");
+fn replay_next(rt: &(impl io::Input + Print + Eprint), t: Tally) -> Tally {
+    let length = read_name_length(rt, b"recorded");
     if length > 255 {
         return Tally { more: false, ..t };
     }
     let mut name = [0u8; 255];
-    let part = read_part(b"recorded", &mut name, length);
+    let part = read_part(rt, b"recorded", &mut name, length);
     if part.failed {
         return Tally { more: false, ..t };
     }
     let n = part.count;
-    let replayed = replay();
+    let replayed = replay(rt);
     match replayed {
         Replayed::Agrees => {
             let agree = std::num::wrapping_add_u32(t.agree, 1);
             Tally { agree, ..t }
         }
         Replayed::Differs => {
-            print_difference(&name[..n]);
+            print_difference(rt, &name[..n]);
             let differ = std::num::wrapping_add_u32(t.differ, 1);
             Tally { differ, ..t }
         }
@@ -99,11 +102,10 @@ fn replay_next(t: Tally) -> Tally {
     }
 }
 
-fn print_tally(t: Tally) {
-    io::print_decimal(1, t.agree as u64);
-    io::write_all(1, b" agree, ");
-    io::print_decimal(1, t.differ as u64);
-    print(b"recorded", b" differ\n");
+fn print_tally(rt: &(impl Print + Eprint), t: Tally) {
+    let Tally { agree, differ, .. } = t;
+    let _ = print!(rt; "{agree} agree, {differ}");
+    print(rt, b"recorded", b" differ\n");
 }
 
 // How many files may still follow: none where the bundle has ended.
@@ -118,7 +120,7 @@ fn fewer(left: u32, more: bool) -> u32
 }
 
 // The count ends the loop whatever is read.
-fn main() {
+fn main(rt: HostRuntime) {
     let mut t = Tally {
         agree: 0,
         differ: 0,
@@ -126,8 +128,8 @@ fn main() {
     };
     let mut left: u32 = 65536;
     while left > 0 {
-        t = replay_next(t);
+        t = replay_next(&rt, t);
         left = fewer(left, t.more);
     }
-    print_tally(t);
+    print_tally(&rt, t);
 }

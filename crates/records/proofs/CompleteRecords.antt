@@ -5,13 +5,11 @@ use mathlib.Core.Bool.{Bool, true, false, not, ◌&&◌, ◌||◌}
 use mathlib.Core.List.{List}
 use Prim.Native.Nat.{ℕ, ◌+◌, ◌-◌, ◌≤◌, ◌<◌, ◌^◌}
 use native.Mathlib.Omega.{arith}
-use lib.Dec.{eqb, leb}
 use lib.ListN.{length, take, drop}
-use borrow.Author.Tests.{eqb-true, leb-true}
 use borrow.Author.Rules.{part_to_end}
 use Rattle.floats.specs.Arithmetic.{bits}
 use Rattle.floats.specs.Domain.{in_domain}
-use Rattle.floats.proofs.Cases.{lt-or-le, and-true-left, and-true-right}
+use Rattle.floats.proofs.Cases.{lt-or-le}
 use Rattle.lines.specs.Painted.{painted_by}
 use Rattle.shapes.specs.Drawing.{shape_dots}
 use Rattle.view.specs.Limits.{max_columns, max_rows, max_draws, reset}
@@ -30,7 +28,7 @@ use Rattle.ledger.proofs.CallSteps.{Gives, refused-gives}
 use Rattle.ledger.proofs.PaintSteps.{painter-gives}
 use Rattle.records.specs.declared.complete.EndBits.{EndBits}
 use Rattle.form.specs.Fields.{stands, number_at}
-use Rattle.form.specs.Forms.{max_file, is_unknown, kind_at, map_at, widths_of, record_widths, record_end, record_form}
+use Rattle.form.specs.Forms.{is_unknown, kind_at, map_at, widths_of, record_widths, record_end, record_form}
 use Rattle.records.specs.Records.{line_call, filled_line_call, circle_call, call_of, record_call, complete_map, complete_size, CompleteKind, CompleteAt}
 use Rattle.form.proofs.FormSteps.{well-formed}
 
@@ -39,12 +37,6 @@ some-of-three : (a b c : Bool) → (not a || not b) || not c ≡ not ((a && b) &
 some-of-three true true c = refl
 some-of-three true false c = refl
 some-of-three false b c = refl
-
-pub some-of-four : (a b c d : Bool) → (not a || not b) || (not c || not d) ≡ not ((a && b) && (c && d))
-some-of-four true true true d = refl
-some-of-four true true false d = refl
-some-of-four true false c d = refl
-some-of-four false b c d = refl
 
 -- ---- a draw, by what the functions that it calls ensure
 module _ (canvas : Canvas) (cells labels : List ℕ) (shape : Shape) (colour : ℕ) (bad : Bool) (n : ℕ) (is-bad : bad ≡ bad_shape shape)
@@ -107,28 +99,6 @@ which k h = elim (lt-or-le k 2) [
 
 pub remaining-kind : (k : ℕ) → CompleteKind k → (k ≡ 1 → ⊥) → (k ≡ 2 → ⊥) → k ≡ 4
 remaining-kind k h a b = elim (which k h) [ inl e ↦ absurd (a e) | inr (inl e) ↦ absurd (b e) | inr (inr e) ↦ e ]
-
--- ---- found by its kind, its map and the bytes that are left
-found : (k m a b : ℕ) → eqb k a && eqb m b ≡ true → (k ≡ a) × (m ≡ b)
-found k m a b t = (eqb-true k a (and-true-left (eqb k a) (eqb m b) t), eqb-true m b (and-true-right (eqb k a) (eqb m b) t))
-
-module _ (file : List ℕ) (at : ℕ) (short : length file ≤ max_file) (some : at + 30 ≤ length file) where
-  pub line_at : (eqb (kind_at file at) 1 && eqb (map_at file at) 31) && leb 38 (length file - at) ≡ true → CompleteAt file at 1
-  line_at t =
-      let f = found (kind_at file at) (map_at file at) 1 31 (and-true-left _ (leb 38 (length file - at)) t) in
-      let l = leb-true 38 (length file - at) (and-true-right (eqb (kind_at file at) 1 && eqb (map_at file at) 31) _ t) in
-      ((omega arith, (omega arith, λ e. omega (arith, e))), (short, (omega (arith, l, some), (f.0, f.1))))
-
-  pub filled-line-at : (eqb (kind_at file at) 2 && eqb (map_at file at) 63) && leb 46 (length file - at) ≡ true → CompleteAt file at 2
-  filled-line-at t =
-      let f = found (kind_at file at) (map_at file at) 2 63 (and-true-left _ (leb 46 (length file - at)) t) in
-      let l = leb-true 46 (length file - at) (and-true-right (eqb (kind_at file at) 2 && eqb (map_at file at) 63) _ t) in
-      ((omega arith, (omega arith, λ e. omega (arith, e))), (short, (omega (arith, l, some), (f.0, f.1))))
-
-  pub circle-at : eqb (kind_at file at) 4 && eqb (map_at file at) 15 ≡ true → CompleteAt file at 4
-  circle-at t =
-      let f = found (kind_at file at) (map_at file at) 4 15 t in
-      ((omega arith, (omega arith, λ e. omega (arith, e))), (short, (omega (arith, some), (f.0, f.1))))
 
 -- ---- the form and the end of a record
 record Bounds (file : List ℕ) (at kind : ℕ) : Type 0 where

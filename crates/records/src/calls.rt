@@ -19,7 +19,7 @@ use shapes::painters::Shape;
 use walk::clip::Segment;
 
 // A shape with its colour.
-#[derive(Drop)]
+#[derive(Clone, Copy)]
 struct Drawing {
     shape: Shape,
     colour: u32,

@@ -16,7 +16,7 @@ use shapes::painters::{paint_circle, paint_filled_line, paint_line};
 use walk::clip::Segment;
 
 // The bits of a line's two ends.
-#[derive(Drop)]
+#[derive(Clone, Copy)]
 struct EndBits {
     x1: u64,
     y1: u64,

@@ -10,14 +10,14 @@ use form::sizes::record_form;
 use ledger::state::{Answer, Canvas};
 
 // The next place in the file, or the refusal with document 01's number.
-#[derive(Drop)]
+#[derive(Clone, Copy)]
 pub enum Step {
     Next(usize),
     Refused(u8),
 }
 
 // The canvas after an opening or a record, and the step.
-#[derive(Drop)]
+#[derive(Clone, Copy)]
 pub struct Taken {
     pub canvas: Canvas,
     pub step: Step,

@@ -21,7 +21,7 @@ use walk::bresenham::Ends;
 use walk::clip::{Bounds, Clipped, Segment, clip_line};
 
 // A shape with its floats. The pairs of a Points stand beside it.
-#[derive(Drop)]
+#[derive(Clone, Copy)]
 pub enum Shape {
     Line(Segment),
     FilledLine(Segment, f64),
@@ -30,7 +30,7 @@ pub enum Shape {
 }
 
 // A coordinate pair of a Points.
-#[derive(Drop)]
+#[derive(Clone, Copy)]
 pub struct Pair {
     pub x: f64,
     pub y: f64,

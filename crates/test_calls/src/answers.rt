@@ -48,76 +48,77 @@ fn first_digit(symbol: u32) -> usize
     8
 }
 
+// Bytes of a line. Where they cannot be written, the list goes on all the same.
+pub fn show(rt: &impl Print, bytes: &[u8]) {
+    let _ = rt.write_all(bytes);
+}
+
 // A blank and sixteen digits.
-pub fn show_bits(bits: u64) {
+pub fn show_bits(rt: &impl Print, bits: u64) {
     let digits = hexadecimal(bits);
-    io::write_all(1, b" ");
-    io::write_all(1, &digits);
+    show(rt, b" ");
+    show(rt, &digits);
 }
 
 // A blank and a symbol as in the listing.
-pub fn show_symbol(symbol: u32) {
+pub fn show_symbol(rt: &impl Print, symbol: u32) {
     let digits = hexadecimal(symbol as u64);
     let first = first_digit(symbol);
-    io::write_all(1, b" ");
-    io::write_all(1, &digits[first..]);
+    show(rt, b" ");
+    show(rt, &digits[first..]);
 }
 
 // The op and the blank after it.
-pub fn show_op(op: u8) {
+pub fn show_op(rt: &impl Print, op: u8) {
     let digits = hexadecimal(op as u64);
-    io::write_all(1, &digits[14..]);
-    io::write_all(1, b" ");
+    show(rt, &digits[14..]);
+    show(rt, b" ");
 }
 
 // A word and the number after it.
-pub fn show_number(name: &[u8], n: u64) {
-    io::write_all(1, name);
-    io::print_decimal(1, n);
+pub fn show_number(rt: &impl Print, name: &[u8], n: u64) {
+    show(rt, name);
+    let _ = print!(rt; "{n}");
 }
 
-pub fn show_line_end() {
-    io::write_all(1, b"\n");
+pub fn show_line_end(rt: &impl Print) {
+    show(rt, b"\n");
 }
 
-pub fn show_answer(answer: Answer) {
+pub fn show_answer(rt: &impl Print, answer: Answer) {
     match answer {
-        Answer::Refused(number) => show_number(b"refused ", number as u64),
-        Answer::Painted(n) => show_number(b"painted ", n),
-        Answer::Done => {
-            io::write_all(1, b"done");
-        }
+        Answer::Refused(number) => show_number(rt, b"refused ", number as u64),
+        Answer::Painted(n) => show_number(rt, b"painted ", n),
+        Answer::Done => show(rt, b"done"),
         Answer::Rendered(painted, label_cells) => {
-            show_number(b"rendered ", painted);
-            show_number(b" labels ", label_cells as u64);
+            show_number(rt, b"rendered ", painted);
+            show_number(rt, b" labels ", label_cells as u64);
         }
     }
-    show_line_end();
+    show_line_end(rt);
 }
 
-pub fn show_point(found: Pointed) {
+pub fn show_point(rt: &impl Print, found: Pointed) {
     match found {
-        Pointed::Refused(number) => show_number(b"refused ", number as u64),
+        Pointed::Refused(number) => show_number(rt, b"refused ", number as u64),
         Pointed::Dot(column, row) => {
-            show_number(b"dot ", column as u64);
-            show_number(b" ", row as u64);
+            show_number(rt, b"dot ", column as u64);
+            show_number(rt, b" ", row as u64);
         }
-        Pointed::None => {
-            io::write_all(1, b"none");
-        }
+        Pointed::None => show(rt, b"none"),
     }
-    show_line_end();
+    show_line_end(rt);
 }
 
 // A step that is not there, or whose request has not landed.
-pub fn show_unknown(h: Held) -> Held {
-    io::write_all(1, b"unknown\n");
+pub fn show_unknown(rt: &impl Print, h: Held) -> Held {
+    show(rt, b"unknown\n");
     h
 }
 
 // A call's answer printed; the canvas that it gives is held.
-pub fn answered(h: Held, called: Called) -> Held {
+pub fn answered(rt: &impl Print, h: Held, called: Called) -> Held {
     let answer = called.answer;
-    show_answer(answer);
+    show_answer(rt, answer);
     with_canvas(h, called.canvas)
 }

@@ -10,7 +10,7 @@ use ledger::labels::Choice;
 use ledger::screen::Area;
 
 // 02: k = columns + 65,536 × rows; w0 to w3 the bounds; a marker, m character, n background.
-pub fn open_step(h: Held, step: &[u8], cells: &mut [u32], labels: &[u32]) -> Held {
+pub fn open_step(rt: &impl Print, h: Held, step: &[u8], cells: &mut [u32], labels: &[u32]) -> Held {
     let columns = number16(step, 12);
     let rows = number16(step, 14);
     let bounds = bounds_of(step);
@@ -27,21 +27,27 @@ pub fn open_step(h: Held, step: &[u8], cells: &mut [u32], labels: &[u32]) -> Hel
         &mut *cells,
         labels,
     );
-    answered(h, called)
+    answered(rt, h, called)
 }
 
 // 0B.
-pub fn layer_step(h: Held, cells: &mut [u32], labels: &[u32]) -> Held {
+pub fn layer_step(rt: &impl Print, h: Held, cells: &mut [u32], labels: &[u32]) -> Held {
     let called = layer(h.canvas, &mut *cells, labels);
-    answered(h, called)
+    answered(rt, h, called)
 }
 
 // 0C: a marker, m character.
-pub fn marker_step(h: Held, step: &[u8], cells: &mut [u32], labels: &[u32]) -> Held {
+pub fn marker_step(
+    rt: &impl Print,
+    h: Held,
+    step: &[u8],
+    cells: &mut [u32],
+    labels: &[u32],
+) -> Held {
     let number = number8(step, 1);
     let character = number32(step, 8);
     let called = marker(h.canvas, &mut *cells, labels, number, character);
-    answered(h, called)
+    answered(rt, h, called)
 }
 
 // A label's colour: n where bit 1 of b stands.
@@ -53,17 +59,25 @@ fn choice_of(step: &[u8]) -> Choice {
 }
 
 // 0D: w0 x, w1 y; the text is the first k bytes of the scratch.
-pub fn print_step(h: Held, step: &[u8], cells: &[u32], labels: &mut [u32], scratch: &[u8]) -> Held {
+pub fn print_step(
+    rt: &impl Print,
+    h: Held,
+    step: &[u8],
+    cells: &[u32],
+    labels: &mut [u32],
+    scratch: &[u8],
+) -> Held {
     let x = float_at(step, 16);
     let y = float_at(step, 24);
     let choice = choice_of(step);
     let n = text_length(number32(step, 12), h.scratch, scratch);
     let called = print(h.canvas, cells, &mut *labels, x, y, &scratch[..n], choice);
-    answered(h, called)
+    answered(rt, h, called)
 }
 
 // 0E: w0, w1 the screen's columns and rows, w2, w3 the area's corner.
 pub fn render_step(
+    rt: &impl Print,
     h: Held,
     step: &[u8],
     cells: &mut [u32],
@@ -81,14 +95,14 @@ pub fn render_step(
         y,
     };
     let called = render(h.canvas, &mut *cells, labels, area, &mut *screen);
-    answered(h, called)
+    answered(rt, h, called)
 }
 
 // 0F: w0 x, w1 y.
-pub fn get_point_step(h: Held, step: &[u8]) -> Held {
+pub fn get_point_step(rt: &impl Print, h: Held, step: &[u8]) -> Held {
     let x = float_at(step, 16);
     let y = float_at(step, 24);
     let found = get_point(h.canvas, x, y);
-    show_point(found);
+    show_point(rt, found);
     h
 }

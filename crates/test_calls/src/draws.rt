@@ -30,20 +30,27 @@ fn shape_of(op: u8, step: &[u8]) -> Shape {
     Shape::Circle(s.x1, s.y1, s.x2)
 }
 
-pub fn shape_step(h: Held, op: u8, step: &[u8], cells: &mut [u32], labels: &[u32]) -> Held {
+pub fn shape_step(
+    rt: &impl Print,
+    h: Held,
+    op: u8,
+    step: &[u8],
+    cells: &mut [u32],
+    labels: &[u32],
+) -> Held {
     let shape = shape_of(op, step);
     let colour = number32(step, 4);
     let called = draw(h.canvas, &mut *cells, labels, shape, colour);
-    answered(h, called)
+    answered(rt, h, called)
 }
 
 // 0A: w0 column, w1 row.
-pub fn dot_step(h: Held, step: &[u8], cells: &mut [u32], labels: &[u32]) -> Held {
+pub fn dot_step(rt: &impl Print, h: Held, step: &[u8], cells: &mut [u32], labels: &[u32]) -> Held {
     let column = number32(step, 16);
     let row = number32(step, 24);
     let colour = number32(step, 4);
     let called = dot(h.canvas, &mut *cells, labels, column, row, colour);
-    answered(h, called)
+    answered(rt, h, called)
 }
 
 // How many of k pairs, of 16 bytes each, a scratch that holds so many bytes has; it has room for 2,048.
@@ -93,6 +100,7 @@ fn points_of(
 
 // 09: the first k pairs of the scratch.
 pub fn points_step(
+    rt: &impl Print,
     h: Held,
     step: &[u8],
     cells: &mut [u32],
@@ -103,5 +111,5 @@ pub fn points_step(
     let pairs = pairs_in(scratch, count);
     let colour = number32(step, 4);
     let called = points_of(h.canvas, &mut *cells, labels, pairs, count, colour);
-    answered(h, called)
+    answered(rt, h, called)
 }

@@ -1,5 +1,5 @@
 // The fields of the canvas: step 30 sets one, whatever it then holds, and step 40 shows all.
-use crate::answers::{show_bits, show_line_end, show_number, show_unknown};
+use crate::answers::{show, show_bits, show_line_end, show_number, show_unknown};
 use crate::kept::{Held, with_canvas};
 use crate::operands::float_at;
 use form::fields::{number8, number16, number32, number64};
@@ -91,12 +91,12 @@ fn with_field(c: Canvas, which: u8, step: &[u8]) -> Canvas {
 }
 
 // 30.
-pub fn field_step(h: Held, step: &[u8]) -> Held {
+pub fn field_step(rt: &impl Print, h: Held, step: &[u8]) -> Held {
     let which = number8(step, 1);
     if which > 13 {
-        return show_unknown(h);
+        return show_unknown(rt, h);
     }
-    io::write_all(1, b"set\n");
+    show(rt, b"set\n");
     let canvas = with_field(h.canvas, which, step);
     with_canvas(h, canvas)
 }
@@ -109,44 +109,44 @@ fn bits_of(x: f64) -> u64 {
     0x7FF8000000000000
 }
 
-fn show_float(x: f64) {
-    show_bits(bits_of(x));
+fn show_float(rt: &impl Print, x: f64) {
+    show_bits(rt, bits_of(x));
 }
 
-fn show_flag(flag: bool) {
+fn show_flag(rt: &impl Print, flag: bool) {
     if flag {
-        io::write_all(1, b" 1");
+        show(rt, b" 1");
     } else {
-        io::write_all(1, b" 0");
+        show(rt, b" 0");
     }
 }
 
-fn show_field(n: u64) {
-    show_number(b" ", n);
+fn show_field(rt: &impl Print, n: u64) {
+    show_number(rt, b" ", n);
 }
 
-fn show_bounds(b: Bounds) {
-    show_float(b.left);
-    show_float(b.right);
-    show_float(b.bottom);
-    show_float(b.top);
+fn show_bounds(rt: &impl Print, b: Bounds) {
+    show_float(rt, b.left);
+    show_float(rt, b.right);
+    show_float(rt, b.bottom);
+    show_float(rt, b.top);
 }
 
 // 40: the fields in the order of step 30.
-pub fn canvas_step(h: Held) -> Held {
+pub fn canvas_step(rt: &impl Print, h: Held) -> Held {
     let c = h.canvas;
-    io::write_all(1, b"canvas");
-    show_field(c.columns as u64);
-    show_field(c.rows as u64);
-    show_bounds(c.bounds);
-    show_field(c.marker as u64);
-    show_field(c.character as u64);
-    show_field(c.background as u64);
-    show_flag(c.dirty);
-    show_flag(c.rendered);
-    show_field(c.labels as u64);
-    show_field(c.draws as u64);
-    show_field(c.painted);
-    show_line_end();
+    show(rt, b"canvas");
+    show_field(rt, c.columns as u64);
+    show_field(rt, c.rows as u64);
+    show_bounds(rt, c.bounds);
+    show_field(rt, c.marker as u64);
+    show_field(rt, c.character as u64);
+    show_field(rt, c.background as u64);
+    show_flag(rt, c.dirty);
+    show_flag(rt, c.rendered);
+    show_field(rt, c.labels as u64);
+    show_field(rt, c.draws as u64);
+    show_field(rt, c.painted);
+    show_line_end(rt);
     h
 }

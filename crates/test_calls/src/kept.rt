@@ -5,7 +5,7 @@ use ledger::state::Canvas;
 
 // The canvas; how many words of the stores and of the screen each call is lent; how many bytes the
 // scratch holds; and whether the list goes on.
-#[derive(Drop)]
+#[derive(Clone, Copy)]
 pub struct Held {
     pub canvas: Canvas,
     pub cell_words: usize,

@@ -2,6 +2,8 @@
 // terminal shows it. Every public function is total; its contract says that the lent bytes after
 // it, and the number of bytes, equal a definition in specs/. Bytes past the end are dropped, and the
 // number counts them too.
+#![tactic(auto)]
+
 mod bytes; // bytes.rt: bytes put one after the other
 pub mod listing; // listing.rt: the listing and the refusal of document 01
 mod numbers; // numbers.rt: decimal and hexadecimal numbers

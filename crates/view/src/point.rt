@@ -15,7 +15,7 @@ use walk::bresenham::Dot;
 use walk::clip::Bounds;
 
 // Bounds with a grid's resolution in dots.
-#[derive(Drop)]
+#[derive(Clone, Copy)]
 pub struct View {
     pub bounds: Bounds,
     pub width: u16,
@@ -23,7 +23,7 @@ pub struct View {
 }
 
 // A column and a row, or nowhere.
-#[derive(Drop)]
+#[derive(Clone, Copy)]
 pub enum Found {
     At(u16, u16),
     Nowhere,
@@ -73,7 +73,7 @@ fn less_one(n: u16) -> u16
 }
 
 // A view as a draw uses it for each of its points: what no point changes, computed once.
-#[derive(Drop)]
+#[derive(Clone, Copy)]
 pub struct Frame {
     pub view: View,
     pub width: f64, // from left to right
@@ -102,8 +102,8 @@ pub fn frame_of(v: View) -> Frame
 // one put before them, which is two instructions less than a mask, shifted by its exponent. The kit's own
 // truncation also serves larger floats, which costs twice as much.
 fn whole_part(x: f64) -> u64
-    requires fact_1 { T (le (fin false 1 (pos 0)) x) }
-    requires fact_2 { T (lt x (fin false 1 (pos 53))) }
+    requires low { T (le (fin false 1 (pos 0)) x) }
+    requires high { T (lt x (fin false 1 (pos 53))) }
     ensures { result ≡ to_unsigned 64 x }
 {
     let bits = f64::to_bits(x);

@@ -3,7 +3,7 @@ use Rattle.std.proofs.Common.{◌≡◌, ℕ, zero, suc, ◌+◌, ◌-◌, ◌^�
 use mir.ValLaws.{to_z-of_z}
 use lib.IntN.{sub_ℕ}
 use lib.Signed.{mag, lt_z}
-use Rattle.floats.proofs.Cases.{and-true-left, false-not-true}
+use Rattle.floats.proofs.Cases.{false-not-true}
 use Rattle.walk.specs.Walk.{small}
 
 -- z is p less q
@@ -44,20 +44,6 @@ less-not-above (negsuc n) p q h t = omega arith
 pub less-mag : (z : ℤ) (p q b : ℕ) → Less z p q → p < q + b → q < p + b → mag z < b
 less-mag (pos n) p q b h i j = omega arith
 less-mag (negsuc n) p q b h i j = omega arith
-
-pub mag-raised : (z : ℤ) (m b c : ℕ) → mag z < b → m < c → mag (z +ℤ pos m) < b + c
-mag-raised (pos n) m b c h i = omega arith
-mag-raised (negsuc n) m b c h i = less-mag (sub_ℕ m (suc n)) m (suc n) (b + c) (less-of-naturals m (suc n) m (suc n) (omega arith)) (omega arith) (omega arith)
-
-pub mag-lowered : (z : ℤ) (m b c : ℕ) → mag z < b → m < c → mag (z -ℤ pos m) < b + c
-mag-lowered (pos n) zero b c h i = omega arith
-mag-lowered (pos n) (suc m) b c h i = less-mag (sub_ℕ n (suc m)) n (suc m) (b + c) (less-of-naturals n (suc m) n (suc m) (omega arith)) (omega arith) (omega arith)
-mag-lowered (negsuc n) zero b c h i = less-mag (sub_ℕ zero (suc n)) zero (suc n) (b + c) (less-of-naturals zero (suc n) zero (suc n) (omega arith)) (omega arith) (omega arith)
-mag-lowered (negsuc n) (suc m) b c h i = omega arith
-
-pub small-mag : (z : ℤ) → small z ≡ true → mag z < 2 ^ 20
-small-mag (pos n) h = ltb-true n 1048576 h
-small-mag (negsuc n) h = omega (arith, ltb-true n 1048576 (and-true-left (ltb n 1048576) true h))
 
 pub mag-small : (z : ℤ) → mag z < 2 ^ 20 → small z ≡ true
 mag-small (pos n) h = lt-ltb n 1048576 h

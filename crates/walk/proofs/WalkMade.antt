@@ -1,10 +1,9 @@
 -- What `new` and `step` make of a walk, from their locals.
-use Rattle.std.proofs.Common.{◌≡◌, ℕ, ◌+◌, ◌<◌, ◌≤◌, min, max, true, false, ◌&&◌, ltb, ℤ, sym, arith, ltb-true, le-ltb, lt-ltb}
-use Rattle.floats.proofs.Cases.{and-true-left, and-true-right}
+use Rattle.std.proofs.Common.{◌≡◌, ℕ, ◌+◌, ◌<◌, ◌≤◌, min, max, true, false, ltb, ℤ, sym, arith, le-ltb, lt-ltb}
 use Rattle.walk.specs.declared.bresenham.Ends.{Ends}
 use Rattle.walk.specs.declared.bresenham.Walk.{Walk}
 use Rattle.walk.specs.Line.{dx, dy, shallow, from_start}
-use Rattle.walk.specs.Walk.{first_decision, walk_of, small, on_way, next_decision, next_offset, step_of}
+use Rattle.walk.specs.Walk.{first_decision, walk_of, on_way, next_decision, next_offset, step_of}
 
 module _ (e s : Ends) (a b : ℕ) (z : ℤ) (start : s ≡ from_start e) (across : a ≡ dx s) (along : b ≡ dy s) where
   pub new-shallow : b < a → z ≡ first_decision a b
@@ -24,24 +23,6 @@ module _ (e s : Ends) (a b : ℕ) (z : ℤ) (start : s ≡ from_start e) (across
       let m : min (dx s) (dy s) ≡ a = omega arith in
       let t : shallow s ≡ false = le-ltb (dy s) (dx s) (omega arith) in
       rw (sym start, l, m, t, k)
-
--- what the test of `step` says
-pub record OnWay (w : Walk) : Type 0 where
-  pub near : small w.d ≡ true
-  pub before-end : w.at < w.long
-  pub room : w.offset < 65535
-
-pub on-way : (w : Walk) → on_way w ≡ true → OnWay w
-on-way w h =
-    let a = small w.d in
-    let b = ltb w.at w.long in
-    let c = ltb w.offset 65535 in
-    let ab = and-true-left (a && b) c h in
-    record {
-      near = and-true-left a b ab;
-      before-end = ltb-true w.at w.long (and-true-right a b ab);
-      room = ltb-true w.offset 65535 (and-true-right (a && b) c h);
-    }
 
 pub step-made : (w : Walk) (o : ℕ) (z : ℤ) → on_way w ≡ true → o ≡ next_offset w.d w.offset → z ≡ next_decision w.long w.short w.d
     → record { x = w.x; y = w.y; long = w.long; short = w.short; steep = w.steep; back = w.back; at = w.at + 1; offset = o; d = z } ≡ step_of w

@@ -6,7 +6,7 @@ ghost use Rattle.walk.specs.Line.{apart, starts_second, from_start};
 ghost use Rattle.walk.specs.Walk.{first_decision, walk_of, count_of, moved, dot_of, next_decision, next_offset, small, step_of};
 
 // The two ends of a line, in dots.
-#[derive(Drop)]
+#[derive(Clone, Copy)]
 pub struct Ends {
     pub x1: u16,
     pub y1: u16,
@@ -14,7 +14,7 @@ pub struct Ends {
     pub y2: u16,
 }
 
-#[derive(Drop)]
+#[derive(Clone, Copy)]
 pub struct Dot {
     pub column: u32,
     pub row: u32,
@@ -23,7 +23,7 @@ pub struct Dot {
 // A walk: its first dot, the longer and the shorter difference, whether it runs along the rows
 // (`steep`) and downwards in number in the shorter direction (`back`); then the steps made, the
 // offset in the shorter direction, and the decision value.
-#[derive(Drop)]
+#[derive(Clone, Copy)]
 pub struct Walk {
     pub x: u16,
     pub y: u16,

@@ -3,7 +3,7 @@ ghost use Rattle.std.specs.Prelude.{◌≡◌};
 ghost use Rattle.walk.specs.Clip.{sides_of, outside, common, on_vertical, on_horizontal, cut_point, cut_of, clip_of};
 
 // The bounds of a canvas, each included.
-#[derive(Drop)]
+#[derive(Clone, Copy)]
 pub struct Bounds {
     pub left: f64,
     pub right: f64,
@@ -12,7 +12,7 @@ pub struct Bounds {
 }
 
 // A line's two ends.
-#[derive(Drop)]
+#[derive(Clone, Copy)]
 pub struct Segment {
     pub x1: f64,
     pub y1: f64,
@@ -21,13 +21,13 @@ pub struct Segment {
 }
 
 // A line clipped to the bounds, or none; each with the number of cuts made.
-#[derive(Drop)]
+#[derive(Clone, Copy)]
 pub enum Clipped {
     Line(Segment, u32),
     NoLine(u32),
 }
 
-#[derive(Drop)]
+#[derive(Clone, Copy)]
 struct Sides {
     left: bool,
     right: bool,
@@ -35,7 +35,7 @@ struct Sides {
     top: bool,
 }
 
-#[derive(Drop)]
+#[derive(Clone, Copy)]
 struct Point {
     x: f64,
     y: f64,

@@ -18,7 +18,7 @@ const AFTER_MIDDLE: u64 = 140738562097152;
 
 // A course: how many dots it has; its column and row times 2^48; and what a step adds to them,
 // modulo 2^64.
-#[derive(Drop)]
+#[derive(Clone, Copy)]
 pub struct Course {
     pub count: u32,
     pub column: u64,

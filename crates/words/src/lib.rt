@@ -1,5 +1,7 @@
 // A canvas as a lent list of 64-bit words, for callers that cannot hold a Canvas by value: C and Rust.
 // Every function is total; its contract equals a definition in specs/.
+#![tactic(auto)]
+
 ghost use Rattle.std.specs.Prelude.{◌≡◌, ◌≤◌, ◌^◌, ◌%◌, length};
 ghost use Rattle.floats.specs.Arithmetic.{bits};
 ghost use Rattle.words.specs.Words.{canvas_words, short_words, mark_of, word_of, bounds_in, canvas_of, kept_words, all_words, bits_of, changed_words, cleared_words, fixed_words, status_of, words_after, painted_after, label_cells_after};

@@ -166,6 +166,12 @@ zero-units : (e : ℤ) (n : ℕ) → zero * up e * 2 ^ 1074 ≡ n * down e → n
 zero-units e n v = eq_of_mul-eq-mul_right (down e) (down_pos e) n 0 (sym v ∙ ap (λ (x : ℕ). x * 2 ^ 1074) (zero-mul (up e)) ∙ zero-mul (2 ^ 1074) ∙ sym (zero-mul (down e)))
 
 units-unique : (x y : Float) (s : Bool) (n : ℕ) → T (fits binary64 x) → T (fits binary64 y) → IsUnits x s n → IsUnits y s n → x ≡ y
+units-unique lib.Ieee.nan y s n F G v w = absurd v
+units-unique (lib.Ieee.inf _) y s n F G v w = absurd v
+units-unique (fin t zero e) lib.Ieee.nan s n F G v w = absurd w
+units-unique (fin t zero e) (lib.Ieee.inf _) s n F G v w = absurd w
+units-unique (fin t (suc m) e) lib.Ieee.nan s n F G v w = absurd w
+units-unique (fin t (suc m) e) (lib.Ieee.inf _) s n F G v w = absurd w
 units-unique (fin t zero e) (fin u zero d) s n F G v w = λ i. fin ((v.0 ∙ sym w.0) i) zero ((zero_exponent t e F ∙ sym (zero_exponent u d G)) i)
 units-unique (fin t zero e) (fin u (suc l) d) s n F G v w = absurd (above_zero l (in_units d) n (odd-units (suc l) d n (fitting u l d G) w.1) (zero-units e n v.1))
 units-unique (fin t (suc m) e) (fin u zero d) s n F G v w = absurd (above_zero m (in_units e) n (odd-units (suc m) e n (fitting t m e F) v.1) (zero-units d n w.1))
@@ -192,5 +198,7 @@ rounded-unique x y s num den F G R S = elim (lt-or-le (num * 2 ^ 1074) (midway *
     positive (suc d) h = zero-lt-suc d
 
 pub finite-candidate : (x : Float) → T (fits binary64 x) → Finite x → Candidate x
+finite-candidate lib.Ieee.nan F f = absurd f
+finite-candidate (lib.Ieee.inf _) F f = absurd f
 finite-candidate (fin s zero e) F f = (0, 0, lit< tt, (refl, ap (λ (x : ℕ). x * 2 ^ 1074) (zero-mul (up e)) ∙ sym (zero-mul (down e))))
 finite-candidate (fin s (suc m) e) F f = let g = fitting s m e F in (suc m, in_units e, g.digits, (refl, in-units (suc m) e g.exponent))

@@ -1,0 +1,21 @@
+-- By the test on the two limits; a product of two 16-bit numbers is below 2^32.
+use mathlib.Core.Path.{sym}
+use native.Mathlib.Omega.{arith}
+use borrow.Author.Rules.{rules}
+use Rattle.text.proofs.Sizes.{product-below}
+use Rattle.report.specs.Screen.{picture_size}
+use Rattle.report.proofs.screen.picture_size.Goals as goal
+
+pub returns-then-columns-widest : goal.returns-then-columns-widest
+unfolding picture_size
+returns-then-columns-widest c = rw (sym c.number16-columns.ensures, sym c.number16-rows.ensures, c.if-columns-widest.true)
+
+pub overflow_mul-result : goal.overflow_mul-result
+overflow_mul-result c = omega (arith, product-below c.number16-columns.result c.number16-rows.result (search rules) (search rules))
+
+pub overflow_mul-result-2 : goal.overflow_mul-result-2
+overflow_mul-result-2 c = omega (arith, product-below c.number16-columns.result c.number16-rows.result (search rules) (search rules))
+
+pub returns : goal.returns
+unfolding picture_size
+returns c = rw (sym c.number16-columns.ensures, sym c.number16-rows.ensures, c.if-columns-widest.false)
