@@ -5,7 +5,8 @@
 ghost use Rattle.std.specs.Prelude.{◌≡◌};
 ghost use Rattle.angles.specs.Angles.{angle_table};
 
-// At 0, 1, .. 359 degrees the cosine, and after it the sine.
+// At 0, 1, .. 359 degrees the cosine, and after it the sine. One row, since the proof of `angle_table` runs
+// out of memory over an array of pairs.
 const ANGLES: [f64; 720] = [
     1.0,
     0.0,

@@ -3,83 +3,96 @@
 // name of the program that reads.
 #![tactic(auto)]
 
-ghost use Rattle.std.specs.Prelude.{◌≡◌, ◌≤◌, length, take};
+ghost use Rattle.std.specs.Prelude.{◌≡◌, ◌≤◌, length, take, IfOk, IfSome};
 
-use form::fields::{number8, number32};
 use std::io;
-use streams::{Input, read_input};
+use streams::{FILE_ROOM, Program};
 
-// How many of so many bytes a buffer holds.
-fn held(count: usize, buffer: &[u8]) -> usize
-    ensures { result ≤ length buffer.now }
-{
-    if count < buffer.len() {
-        count
-    } else {
-        buffer.len()
-    }
-}
+pub mod questions; // questions.rt: a question of so many bytes after the other
 
-// At most so many bytes of the input, at the start of a buffer.
-pub fn read_part(
-    rt: &(impl io::Input + Eprint),
-    program: &[u8],
+// At most so many bytes of the input, at the start of a buffer. Answers how many.
+pub fn read_part<R: io::Input + Eprint>(
+    program: &Program<'_, R>,
     buffer: &mut [u8],
     most: usize,
-) -> Input
-    ensures in_buffer { result.count ≤ length buffer.new }
-    ensures prefix { result.count ≡ length (take result.count buffer.new) }
+) -> io::Result<usize>
+    ensures in_buffer { IfOk result (λ count. count ≤ length buffer.new) }
+    ensures prefix { IfOk result (λ count. count ≡ length (take count buffer.new)) }
 {
-    let n = held(most, &*buffer);
-    read_input(rt, program, &mut buffer[..n])
+    let n = most.min(buffer.len());
+    program.read(&mut buffer[..n])
 }
 
-// A name's length, of one byte; 256 at the end of the input, or where it cannot be read.
-pub fn read_name_length(rt: &(impl io::Input + Eprint), program: &[u8]) -> usize {
+// A name's length, of one byte; none at the end of the input.
+fn read_name_length<R: io::Input + Eprint>(program: &Program<'_, R>) -> io::Result<Option<u8>> {
     let mut head = [0u8; 1];
-    let input = read_input(rt, program, &mut head);
-    if input.count == 0 {
-        return 256;
-    }
-    number8(&head, 0) as usize
+    let count = program.read(&mut head)?;
+    Ok(head[..count].first().copied())
 }
 
-// The bytes of a part that a buffer of so many did not hold, at most 65,536 of them. Answers whether
-// they could be read.
-fn skip_rest(rt: &(impl io::Input + Eprint), program: &[u8], length: usize, room: usize) -> bool {
+// A name, at the start of a buffer. Answers how many bytes it has, and none at the end of the input.
+pub fn read_name<R: io::Input + Eprint>(
+    program: &Program<'_, R>,
+    name: &mut [u8; 255],
+) -> io::Result<Option<usize>>
+    ensures in_buffer { IfOk result (λ found. IfSome found (λ count. count ≤ length name.new)) }
+{
+    let Some(length) = read_name_length(program)? else {
+        return Ok(None);
+    };
+    let count = read_part(program, &mut *name, usize::from(length))?;
+    Ok(Some(count))
+}
+
+// The bytes of a part that a buffer of so many did not hold, at most 65,536 of them.
+fn skip_rest<R: io::Input + Eprint>(
+    program: &Program<'_, R>,
+    length: usize,
+    room: usize,
+) -> io::Result<()> {
     if length > room {
         let mut rest = [0u8; 65536];
-        let input = read_part(rt, program, &mut rest, length - room);
-        return !input.failed;
+        read_part(program, &mut rest, length - room)?;
     }
-    true
+    Ok(())
 }
 
 // A file: its length, of four bytes, and as many of its bytes as the buffer holds. The others are skipped.
-pub fn read_file(rt: &(impl io::Input + Eprint), program: &[u8], buffer: &mut [u8]) -> Input
-    ensures in_buffer { result.count ≤ length buffer.new }
-    ensures prefix { result.count ≡ length (take result.count buffer.new) }
+// Answers how many bytes of it the buffer holds.
+pub fn read_file<R: io::Input + Eprint>(
+    program: &Program<'_, R>,
+    buffer: &mut [u8],
+) -> io::Result<usize>
+    ensures in_buffer { IfOk result (λ count. count ≤ length buffer.new) }
+    ensures prefix { IfOk result (λ count. count ≡ length (take count buffer.new)) }
 {
     let mut bytes = [0u8; 4];
-    let head = read_input(rt, program, &mut bytes);
-    if head.failed {
-        return Input {
-            count: 0,
-            failed: true,
+    program.read(&mut bytes)?;
+    let size = u32::from_le_bytes(bytes) as usize;
+    let count = read_part(program, &mut *buffer, size)?;
+    skip_rest(program, size, buffer.len())?;
+    Ok(count)
+}
+
+// Prints each case of a bundle: the line `case NAME`, and what a closure prints for its file. The range
+// ends the loop whatever is read.
+pub fn print_cases<R: io::Input + Print + Eprint, F: Fn(&[u8]) -> io::Result<()>>(
+    program: &Program<'_, R>,
+    print_file: F,
+) -> io::Result<()>
+    requires { F.IsAlwaysCallable print_file }
+{
+    for _ in 0..65536 {
+        let mut name = [0u8; 255];
+        let Some(length) = read_name(program, &mut name)? else {
+            break;
         };
+        program.print(b"case ")?;
+        program.print(&name[..length])?;
+        program.print(b"\n")?;
+        let mut file = [0u8; FILE_ROOM];
+        let count = read_file(program, &mut file)?;
+        print_file(&file[..count])?;
     }
-    let size = number32(&bytes, 0) as usize;
-    let part = read_part(rt, program, &mut *buffer, size);
-    let count = part.count;
-    if part.failed {
-        return Input {
-            count,
-            failed: true,
-        };
-    }
-    let skipped = skip_rest(rt, program, size, buffer.len());
-    Input {
-        count,
-        failed: !skipped,
-    }
+    Ok(())
 }

@@ -1,33 +1,51 @@
-// The calls on a canvas: document 01, 'Calls and refusals, in order'. The canvas goes in by value and
-// comes back; a refused call gives its number and leaves the canvas and every lent list as they were.
-ghost use Rattle.std.specs.Prelude.{◌≡◌, ◌+◌, ◌^◌, ◌<◌, ◌≤◌, List, length};
+// The calls on a canvas: document 01, 'Calls and refusals, in order'. A refused call leaves the canvas
+// and every lent list as they were. Canvas, cells and labels stand side by side, since which of them a call
+// writes is said by `&mut`; markers come as numbers, since one that is no marker is refused with 4.
+ghost use Rattle.std.specs.Prelude.{◌≡◌, ◌+◌, ◌^◌, ◌<◌, ◌≤◌, cond, List, length};
+ghost use Rattle.refusals.specs.Refusals.{number_of, number_in};
 ghost use Rattle.view.specs.Limits.{max_columns, max_rows, max_draws, reset};
 ghost use Rattle.shapes.specs.declared.painters.Pair.{Pair};
 ghost use Rattle.shapes.specs.declared.painters.Shape.{Shape};
 ghost use Rattle.ledger.specs.Calls.{bad_shape, bad_pairs, open_refusal, draw, points, dot, layer, marker, print, render};
 ghost use Rattle.ledger.specs.Model.{zero_canvas, open_cells, drawn_canvas, marked_cells, rendered_cells, state_after};
-ghost use Rattle.ledger.specs.Outcomes.{given, refusal_by, called_on, screen_on, open_called, painter_of};
+ghost use Rattle.ledger.specs.Outcomes.{given, refusal_by, answer_on, screen_on, open_called, painter_of};
 ghost use Rattle.ledger.specs.PointCall.{pointed_on};
+ghost use Rattle.canvas.specs.Results.{opened, painted, done, rendered, found};
 
 use display::labels::{choice_word, is_bad_choice, is_bad_text, put_label};
 use display::laying::{is_bad_screen, lay, passes_edge, write_labels};
-use grids::markers::is_marker;
+use grids::markers::{Marker, is_marker};
 use grids::painting::{cell_count, paint};
 use layers::{blank, finish_layer, reset};
-use ledger::labels::Choice;
 use ledger::screen::Area;
-use ledger::state::{Answer, Called, Canvas, Pointed};
+use ledger::state::Canvas;
 use limits::state::{
     is_bad_bounds, is_bad_canvas, is_bad_colour, is_bad_point, is_bad_shape, is_bad_size, is_full,
     is_outside_grid, state,
 };
 use lines::painter::Painter;
+use refusals::refusal::Refusal;
 use shapes::painters::{Shape, paint_shape};
-use view::point::{Found, label_place, point, view_of};
+use view::point::{label_place, point, view_of};
 use walk::clip::Bounds;
 
-// ---- what each call is refused on: the number, or 0
+// What a render counts: the dots painted in all, and the cells that labels took.
+#[derive(Clone, Copy, PartialEq, Eq, Debug)]
+pub struct Rendered {
+    pub painted: u64,
+    pub label_cells: u32,
+}
 
+// ---- what each call is refused on
+
+// A condition of a refusal. Each list of them below stands in document 01's order.
+fn refuse_if(met: bool, refusal: Refusal) -> Result<(), Refusal>
+    ensures { number_in result ≡ cond met (number_of refusal) 0 }
+{
+    if met { Err(refusal) } else { Ok(()) }
+}
+
+#[tactic(auto, using(crate::proofs::Refusing::conditions), unfolding(ledger::specs::Calls::open_refusal))]
 fn open_refusal(
     columns: u16,
     rows: u16,
@@ -37,49 +55,36 @@ fn open_refusal(
     background: u32,
     cells: usize,
     labels: usize,
-) -> u8
-    ensures { result ≡ open_refusal (record { columns = columns; rows = rows; bounds = bounds; marker = number; character = character; background = background }) cells labels }
+) -> Result<(), Refusal>
+    ensures { number_in result ≡ open_refusal (record { columns = columns; rows = rows; bounds = bounds; marker = number; character = character; background = background }) cells labels }
 {
-    if is_bad_size(columns, rows) {
-        return 1;
-    }
-    if is_bad_bounds(bounds) {
-        return 2;
-    }
-    if is_bad_colour(background) {
-        return 3;
-    }
-    if !is_marker(number, character) {
-        return 4;
-    }
+    refuse_if(is_bad_size(columns, rows), Refusal::Size)?;
+    refuse_if(is_bad_bounds(bounds), Refusal::Number)?;
+    refuse_if(is_bad_colour(background), Refusal::Colour)?;
+    refuse_if(!is_marker(number, character), Refusal::Marker)?;
     let n = cell_count(columns, rows);
-    if (cells < n * 5) | (labels < 2816) {
-        return 5;
-    }
-    0
+    refuse_if((cells < n * 5) | (labels < 2816), Refusal::Canvas)
 }
 
 // Of a draw: of its shape it is enough whether a number is bad.
-pub fn draw_refusal(c: Canvas, cells: usize, labels: usize, bad: bool, colour: u32) -> u8
-    ensures { (shape : Shape) → bad ≡ bad_shape shape → result ≡ refusal_by c cells labels (draw shape colour) }
+#[tactic(auto, using(crate::proofs::Refusing::conditions), unfolding(ledger::specs::Calls::refusal))]
+pub fn draw_refusal(
+    c: Canvas,
+    cells: usize,
+    labels: usize,
+    bad: bool,
+    colour: u32,
+) -> Result<(), Refusal>
+    ensures { (shape : Shape) → bad ≡ bad_shape shape → number_in result ≡ refusal_by c cells labels (draw shape colour) }
 {
-    let s = state(c, cells, labels);
-    if s != 0 {
-        return s;
-    }
-    if bad {
-        return 2;
-    }
-    if is_bad_colour(colour) {
-        return 3;
-    }
-    if is_full(c.draws) {
-        return 7;
-    }
-    0
+    state(c, cells, labels)?;
+    refuse_if(bad, Refusal::Number)?;
+    refuse_if(is_bad_colour(colour), Refusal::Colour)?;
+    refuse_if(is_full(c.draws), Refusal::Draws)
 }
 
 // Of Points: of its list of pairs the length and whether one of them is bad are enough.
+#[tactic(auto, using(crate::proofs::Refusing::conditions), unfolding(ledger::specs::Calls::refusal))]
 pub fn points_refusal(
     c: Canvas,
     cells: usize,
@@ -87,60 +92,49 @@ pub fn points_refusal(
     bad: bool,
     count: usize,
     colour: u32,
-) -> u8
-    ensures { (pairs : List Pair) → bad ≡ bad_pairs pairs → count ≡ length pairs → result ≡ refusal_by c cells labels (points pairs colour) }
+) -> Result<(), Refusal>
+    ensures { (pairs : List Pair) → bad ≡ bad_pairs pairs → count ≡ length pairs → number_in result ≡ refusal_by c cells labels (points pairs colour) }
 {
-    let s = state(c, cells, labels);
-    if s != 0 {
-        return s;
-    }
-    if bad {
-        return 2;
-    }
-    if is_bad_colour(colour) {
-        return 3;
-    }
-    if is_full(c.draws) {
-        return 7;
-    }
-    if count > 1000 {
-        return 8;
-    }
-    0
+    state(c, cells, labels)?;
+    refuse_if(bad, Refusal::Number)?;
+    refuse_if(is_bad_colour(colour), Refusal::Colour)?;
+    refuse_if(is_full(c.draws), Refusal::Draws)?;
+    refuse_if(count > 1000, Refusal::Pairs)
 }
 
-fn dot_refusal(c: Canvas, cells: usize, labels: usize, column: u32, row: u32, colour: u32) -> u8
-    ensures { result ≡ refusal_by c cells labels (dot column row colour) }
+#[tactic(auto, using(crate::proofs::Refusing::conditions), unfolding(ledger::specs::Calls::refusal))]
+fn dot_refusal(
+    c: Canvas,
+    cells: usize,
+    labels: usize,
+    column: u32,
+    row: u32,
+    colour: u32,
+) -> Result<(), Refusal>
+    ensures { number_in result ≡ refusal_by c cells labels (dot column row colour) }
 {
-    let s = state(c, cells, labels);
-    if s != 0 {
-        return s;
-    }
-    if is_bad_colour(colour) {
-        return 3;
-    }
-    if is_full(c.draws) {
-        return 7;
-    }
-    if is_outside_grid(c.marker, c.columns, c.rows, column, row) {
-        return 9;
-    }
-    0
+    state(c, cells, labels)?;
+    refuse_if(is_bad_colour(colour), Refusal::Colour)?;
+    refuse_if(is_full(c.draws), Refusal::Draws)?;
+    let outside = is_outside_grid(c.marker, c.columns, c.rows, column, row);
+    refuse_if(outside, Refusal::Outside)
 }
 
-fn marker_refusal(c: Canvas, cells: usize, labels: usize, number: u8, character: u32) -> u8
-    ensures { result ≡ refusal_by c cells labels (marker number character) }
+#[tactic(auto, using(crate::proofs::Refusing::conditions), unfolding(ledger::specs::Calls::refusal))]
+fn marker_refusal(
+    c: Canvas,
+    cells: usize,
+    labels: usize,
+    number: u8,
+    character: u32,
+) -> Result<(), Refusal>
+    ensures { number_in result ≡ refusal_by c cells labels (marker number character) }
 {
-    let s = state(c, cells, labels);
-    if s != 0 {
-        return s;
-    }
-    if !is_marker(number, character) {
-        return 4;
-    }
-    0
+    state(c, cells, labels)?;
+    refuse_if(!is_marker(number, character), Refusal::Marker)
 }
 
+#[tactic(auto, using(crate::proofs::Refusing::conditions), unfolding(ledger::specs::Calls::refusal))]
 fn print_refusal(
     c: Canvas,
     cells: usize,
@@ -148,55 +142,33 @@ fn print_refusal(
     x: f64,
     y: f64,
     text: &[u8],
-    choice: Choice,
-) -> u8
-    ensures { result ≡ refusal_by c cells labels (print x y text.now choice) }
+    choice: Option<u32>,
+) -> Result<(), Refusal>
+    ensures { number_in result ≡ refusal_by c cells labels (print x y text.now choice) }
 {
-    let s = state(c, cells, labels);
-    if s != 0 {
-        return s;
-    }
-    if is_bad_point(x, y) {
-        return 2;
-    }
-    if is_bad_choice(choice) {
-        return 3;
-    }
-    if is_bad_text(text) {
-        return 10;
-    }
-    if c.labels >= 64 {
-        return 11;
-    }
-    0
+    state(c, cells, labels)?;
+    refuse_if(is_bad_point(x, y), Refusal::Number)?;
+    refuse_if(is_bad_choice(choice), Refusal::Colour)?;
+    refuse_if(is_bad_text(text), Refusal::Text)?;
+    refuse_if(c.labels >= 64, Refusal::Labels)
 }
 
-fn render_refusal(c: Canvas, cells: usize, labels: usize, area: Area, screen: &[u32]) -> u8
-    ensures { result ≡ refusal_by c cells labels (render area screen.now) }
+#[tactic(auto, using(crate::proofs::Refusing::conditions), unfolding(ledger::specs::Calls::refusal))]
+fn render_refusal(
+    c: Canvas,
+    cells: usize,
+    labels: usize,
+    area: Area,
+    screen: &[u32],
+) -> Result<(), Refusal>
+    ensures { number_in result ≡ refusal_by c cells labels (render area screen.now) }
 {
-    let s = state(c, cells, labels);
-    if s != 0 {
-        return s;
-    }
-    if passes_edge(c.columns, c.rows, area) {
-        return 12;
-    }
-    if is_bad_screen(area, screen) {
-        return 13;
-    }
-    0
+    state(c, cells, labels)?;
+    refuse_if(passes_edge(c.columns, c.rows, area), Refusal::Edge)?;
+    refuse_if(is_bad_screen(area, screen), Refusal::Screen)
 }
 
-// ---- answers
-
-pub fn refused(canvas: Canvas, number: u8) -> Called
-    ensures { result ≡ record { canvas = canvas; answer = Answer.Refused number } }
-{
-    Called {
-        canvas,
-        answer: Answer::Refused(number),
-    }
-}
+// ---- steps of the calls
 
 // The canvas of a refused opening, which 'state' meets with 5.
 pub fn zero_canvas() -> Canvas
@@ -226,32 +198,25 @@ pub fn zero_canvas() -> Canvas
 pub fn painter_for(c: Canvas, colour: u32) -> Painter
     ensures { c.columns ≤ max_columns → c.rows ≤ max_rows → colour ≤ reset → result ≡ painter_of c colour }
 {
-    let v = view_of(c.bounds, c.columns, c.rows, c.marker);
-    let word = std::num::wrapping_add_u32(colour, 1);
+    let marker = Marker::from(c.marker);
+    let v = view_of(c.bounds, c.columns, c.rows, marker);
+    let word = colour.wrapping_add(1);
     Painter {
         view: v,
         columns: c.columns,
         rows: c.rows,
-        marker: c.marker,
+        marker,
         word,
     }
 }
 
 // The canvas after a draw or dot of n dots.
-pub fn drawn(c: Canvas, n: u64) -> Called
-    ensures { c.draws < max_draws → c.painted + n < 2 ^ 64 → result ≡ record { canvas = drawn_canvas c n; answer = Answer.Painted n } }
+pub fn count_draw(canvas: &mut Canvas, n: u64)
+    ensures { canvas.old.draws < max_draws → canvas.old.painted + n < 2 ^ 64 → canvas.new ≡ drawn_canvas canvas.old n }
 {
-    let draws = std::num::wrapping_add_u32(c.draws, 1);
-    let painted = std::num::wrapping_add_u64(c.painted, n);
-    Called {
-        canvas: Canvas {
-            dirty: true,
-            draws,
-            painted,
-            ..c
-        },
-        answer: Answer::Painted(n),
-    }
+    canvas.dirty = true;
+    canvas.draws = canvas.draws.wrapping_add(1);
+    canvas.painted = canvas.painted.wrapping_add(n);
 }
 
 // The grid cleared in any case; a dirty one is laid over the picture before.
@@ -259,9 +224,10 @@ fn clear_grid(c: Canvas, cells: &mut [u32])
     ensures { cells.new ≡ marked_cells c cells.old }
 {
     if c.dirty {
-        finish_layer(&mut *cells, c.columns, c.rows, c.marker, c.character);
+        let marker = Marker::from(c.marker);
+        finish_layer(cells, c.columns, c.rows, marker, c.character);
     } else {
-        reset(&mut *cells, c.columns, c.rows);
+        reset(cells, c.columns, c.rows);
     }
 }
 
@@ -270,7 +236,8 @@ fn finish(c: Canvas, cells: &mut [u32])
     ensures { cells.new ≡ rendered_cells c cells.old }
 {
     if c.dirty {
-        finish_layer(&mut *cells, c.columns, c.rows, c.marker, c.character);
+        let marker = Marker::from(c.marker);
+        finish_layer(cells, c.columns, c.rows, marker, c.character);
     }
 }
 
@@ -286,11 +253,11 @@ pub fn open(
     background: u32,
     cells: &mut [u32],
     labels: &[u32],
-) -> Called
-    ensures { (result ≡ open_called (record { columns = columns; rows = rows; bounds = bounds; marker = number; character = character; background = background }) cells.old (length labels.now))
-        × (cells.new ≡ open_cells (record { columns = columns; rows = rows; bounds = bounds; marker = number; character = character; background = background }) cells.old (length labels.now)) }
+) -> Result<Canvas, Refusal>
+    ensures canvas { opened result ≡ open_called (record { columns = columns; rows = rows; bounds = bounds; marker = number; character = character; background = background }) cells.old (length labels.now) }
+    ensures cells { cells.new ≡ open_cells (record { columns = columns; rows = rows; bounds = bounds; marker = number; character = character; background = background }) cells.old (length labels.now) }
 {
-    let n = open_refusal(
+    open_refusal(
         columns,
         rows,
         bounds,
@@ -299,199 +266,159 @@ pub fn open(
         background,
         cells.len(),
         labels.len(),
-    );
-    if n != 0 {
-        let zero = zero_canvas();
-        return refused(zero, n);
-    }
-    blank(&mut *cells, columns, rows);
-    Called {
-        canvas: Canvas {
-            columns,
-            rows,
-            bounds,
-            marker: number,
-            character,
-            background,
-            dirty: false,
-            rendered: false,
-            labels: 0,
-            draws: 0,
-            painted: 0,
-        },
-        answer: Answer::Done,
-    }
+    )?;
+    blank(cells, columns, rows);
+    Ok(Canvas {
+        columns,
+        rows,
+        bounds,
+        marker: number,
+        character,
+        background,
+        dirty: false,
+        rendered: false,
+        labels: 0,
+        draws: 0,
+        painted: 0,
+    })
 }
 
-// A shape drawn in a colour.
-pub fn draw(canvas: Canvas, cells: &mut [u32], labels: &[u32], shape: Shape, colour: u32) -> Called
-    ensures { (result ≡ called_on (given canvas cells.old labels.now) (draw shape colour))
-        × (cells.new ≡ (state_after (given canvas cells.old labels.now) (draw shape colour)).cells) }
+// A shape drawn in a colour; the number of its dots.
+pub fn draw(
+    canvas: &mut Canvas,
+    cells: &mut [u32],
+    labels: &[u32],
+    shape: Shape,
+    colour: u32,
+) -> Result<u64, Refusal>
+    ensures answer { painted result ≡ answer_on (given canvas.old cells.old labels.now) (draw shape colour) }
+    ensures canvas { canvas.new ≡ (state_after (given canvas.old cells.old labels.now) (draw shape colour)).canvas }
+    ensures cells { cells.new ≡ (state_after (given canvas.old cells.old labels.now) (draw shape colour)).cells }
 {
     let bad = is_bad_shape(shape);
-    let n = draw_refusal(canvas, cells.len(), labels.len(), bad, colour);
-    if n != 0 {
-        return refused(canvas, n);
-    }
-    let p = painter_for(canvas, colour);
-    let painted = paint_shape(&mut *cells, p, shape);
-    drawn(canvas, painted)
+    draw_refusal(*canvas, cells.len(), labels.len(), bad, colour)?;
+    let p = painter_for(*canvas, colour);
+    let n = paint_shape(cells, p, shape);
+    count_draw(canvas, n);
+    Ok(n)
 }
 
 // One dot painted: `Painter::paint` inside a draw.
 pub fn dot(
-    canvas: Canvas,
+    canvas: &mut Canvas,
     cells: &mut [u32],
     labels: &[u32],
     column: u32,
     row: u32,
     colour: u32,
-) -> Called
-    ensures { (result ≡ called_on (given canvas cells.old labels.now) (dot column row colour))
-        × (cells.new ≡ (state_after (given canvas cells.old labels.now) (dot column row colour)).cells) }
+) -> Result<u64, Refusal>
+    ensures answer { painted result ≡ answer_on (given canvas.old cells.old labels.now) (dot column row colour) }
+    ensures canvas { canvas.new ≡ (state_after (given canvas.old cells.old labels.now) (dot column row colour)).canvas }
+    ensures cells { cells.new ≡ (state_after (given canvas.old cells.old labels.now) (dot column row colour)).cells }
 {
-    let n = dot_refusal(canvas, cells.len(), labels.len(), column, row, colour);
-    if n != 0 {
-        return refused(canvas, n);
-    }
-    let word = std::num::wrapping_add_u32(colour, 1);
+    dot_refusal(*canvas, cells.len(), labels.len(), column, row, colour)?;
+    let word = colour.wrapping_add(1);
+    let marker = Marker::from(canvas.marker);
     paint(
-        &mut *cells,
+        cells,
         canvas.columns,
         canvas.rows,
-        canvas.marker,
+        marker,
         column,
         row,
         word,
     );
-    drawn(canvas, 1)
+    count_draw(canvas, 1);
+    Ok(1)
 }
 
 // The layer saved, a clean one too, and a new one begun.
-pub fn layer(canvas: Canvas, cells: &mut [u32], labels: &[u32]) -> Called
-    ensures { (result ≡ called_on (given canvas cells.old labels.now) layer)
-        × (cells.new ≡ (state_after (given canvas cells.old labels.now) layer).cells) }
+pub fn layer(canvas: &mut Canvas, cells: &mut [u32], labels: &[u32]) -> Result<(), Refusal>
+    ensures answer { done result ≡ answer_on (given canvas.old cells.old labels.now) layer }
+    ensures canvas { canvas.new ≡ (state_after (given canvas.old cells.old labels.now) layer).canvas }
+    ensures cells { cells.new ≡ (state_after (given canvas.old cells.old labels.now) layer).cells }
 {
-    let n = state(canvas, cells.len(), labels.len());
-    if n != 0 {
-        return refused(canvas, n);
-    }
-    finish_layer(
-        &mut *cells,
-        canvas.columns,
-        canvas.rows,
-        canvas.marker,
-        canvas.character,
-    );
-    Called {
-        canvas: Canvas {
-            dirty: false,
-            ..canvas
-        },
-        answer: Answer::Done,
-    }
+    state(*canvas, cells.len(), labels.len())?;
+    let marker = Marker::from(canvas.marker);
+    finish_layer(cells, canvas.columns, canvas.rows, marker, canvas.character);
+    canvas.dirty = false;
+    Ok(())
 }
 
 // A dirty layer saved, the grid cleared, and a new one begun with another marker.
 pub fn marker(
-    canvas: Canvas,
+    canvas: &mut Canvas,
     cells: &mut [u32],
     labels: &[u32],
     number: u8,
     character: u32,
-) -> Called
-    ensures { (result ≡ called_on (given canvas cells.old labels.now) (marker number character))
-        × (cells.new ≡ (state_after (given canvas cells.old labels.now) (marker number character)).cells) }
+) -> Result<(), Refusal>
+    ensures answer { done result ≡ answer_on (given canvas.old cells.old labels.now) (marker number character) }
+    ensures canvas { canvas.new ≡ (state_after (given canvas.old cells.old labels.now) (marker number character)).canvas }
+    ensures cells { cells.new ≡ (state_after (given canvas.old cells.old labels.now) (marker number character)).cells }
 {
-    let n = marker_refusal(canvas, cells.len(), labels.len(), number, character);
-    if n != 0 {
-        return refused(canvas, n);
-    }
-    clear_grid(canvas, &mut *cells);
-    Called {
-        canvas: Canvas {
-            marker: number,
-            character,
-            dirty: false,
-            ..canvas
-        },
-        answer: Answer::Done,
-    }
+    marker_refusal(*canvas, cells.len(), labels.len(), number, character)?;
+    clear_grid(*canvas, cells);
+    canvas.marker = number;
+    canvas.character = character;
+    canvas.dirty = false;
+    Ok(())
 }
 
 // A label kept, with its place in the area.
 pub fn print(
-    canvas: Canvas,
+    canvas: &mut Canvas,
     cells: &[u32],
     labels: &mut [u32],
     x: f64,
     y: f64,
     text: &[u8],
-    choice: Choice,
-) -> Called
-    ensures { (result ≡ called_on (given canvas cells.now labels.old) (print x y text.now choice))
-        × (labels.new ≡ (state_after (given canvas cells.now labels.old) (print x y text.now choice)).labels) }
+    choice: Option<u32>,
+) -> Result<(), Refusal>
+    ensures answer { done result ≡ answer_on (given canvas.old cells.now labels.old) (print x y text.now choice) }
+    ensures canvas { canvas.new ≡ (state_after (given canvas.old cells.now labels.old) (print x y text.now choice)).canvas }
+    ensures labels { labels.new ≡ (state_after (given canvas.old cells.now labels.old) (print x y text.now choice)).labels }
 {
-    let n = print_refusal(canvas, cells.len(), labels.len(), x, y, text, choice);
-    if n != 0 {
-        return refused(canvas, n);
-    }
+    print_refusal(*canvas, cells.len(), labels.len(), x, y, text, choice)?;
     let place = label_place(canvas.bounds, canvas.columns, canvas.rows, x, y);
     let word = choice_word(choice);
-    put_label(&mut *labels, canvas.labels, place, word, text);
-    let held = std::num::wrapping_add_u32(canvas.labels, 1);
-    Called {
-        canvas: Canvas {
-            labels: held,
-            ..canvas
-        },
-        answer: Answer::Done,
-    }
+    put_label(labels, canvas.labels, place, word, text);
+    canvas.labels = canvas.labels.wrapping_add(1);
+    Ok(())
 }
 
 // The picture and the labels laid on the screen; the canvas is closed.
 pub fn render(
-    canvas: Canvas,
+    canvas: &mut Canvas,
     cells: &mut [u32],
     labels: &[u32],
     area: Area,
     screen: &mut [u32],
-) -> Called
-    ensures { (result ≡ called_on (given canvas cells.old labels.now) (render area screen.old))
-        × ((cells.new ≡ (state_after (given canvas cells.old labels.now) (render area screen.old)).cells)
-        × (screen.new ≡ screen_on (given canvas cells.old labels.now) area screen.old)) }
+) -> Result<Rendered, Refusal>
+    ensures answer { rendered result ≡ answer_on (given canvas.old cells.old labels.now) (render area screen.old) }
+    ensures canvas { canvas.new ≡ (state_after (given canvas.old cells.old labels.now) (render area screen.old)).canvas }
+    ensures cells { cells.new ≡ (state_after (given canvas.old cells.old labels.now) (render area screen.old)).cells }
+    ensures screen { screen.new ≡ screen_on (given canvas.old cells.old labels.now) area screen.old }
 {
-    let n = render_refusal(canvas, cells.len(), labels.len(), area, &*screen);
-    if n != 0 {
-        return refused(canvas, n);
-    }
-    finish(canvas, &mut *cells);
-    lay(&mut *screen, area, &*cells, canvas);
-    let label_cells = write_labels(&mut *screen, area, canvas, labels);
-    Called {
-        canvas: Canvas {
-            dirty: false,
-            rendered: true,
-            ..canvas
-        },
-        answer: Answer::Rendered(canvas.painted, label_cells),
-    }
+    render_refusal(*canvas, cells.len(), labels.len(), area, screen)?;
+    finish(*canvas, cells);
+    lay(screen, area, cells, *canvas);
+    let label_cells = write_labels(screen, area, *canvas, labels);
+    canvas.dirty = false;
+    canvas.rendered = true;
+    Ok(Rendered {
+        painted: canvas.painted,
+        label_cells,
+    })
 }
 
 // The dot of a point, as the canvas stands; it needs no store, and takes a rendered canvas too.
-pub fn get_point(canvas: Canvas, x: f64, y: f64) -> Pointed
-    ensures { result ≡ pointed_on canvas x y }
+pub fn get_point(canvas: Canvas, x: f64, y: f64) -> Result<Option<(u16, u16)>, Refusal>
+    ensures { found result ≡ pointed_on canvas x y }
 {
-    if is_bad_canvas(canvas) {
-        return Pointed::Refused(5);
-    }
-    if is_bad_point(x, y) {
-        return Pointed::Refused(2);
-    }
-    let v = view_of(canvas.bounds, canvas.columns, canvas.rows, canvas.marker);
-    let found = point(v, x, y);
-    match found {
-        Found::At(column, row) => Pointed::Dot(column, row),
-        Found::Nowhere => Pointed::None,
-    }
+    refuse_if(is_bad_canvas(canvas), Refusal::Canvas)?;
+    refuse_if(is_bad_point(x, y), Refusal::Number)?;
+    let marker = Marker::from(canvas.marker);
+    let v = view_of(canvas.bounds, canvas.columns, canvas.rows, marker);
+    Ok(point(v, x, y))
 }

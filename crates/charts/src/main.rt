@@ -2,6 +2,7 @@
 // charts: the stored output is made from the characters' names (tools/charts).
 #![tactic(auto)]
 
+use grids::markers::Marker;
 use grids::symbols::symbol;
 use std::io;
 
@@ -10,20 +11,18 @@ fn line(rt: &impl Print, pattern: u32, symbol: u32) -> io::Result<()> {
 }
 
 // The symbols of a marker's patterns, from one to before another.
-fn lines(rt: &impl Print, marker: u8, first: u32, end: u32) -> io::Result<()> {
-    let mut pattern = first;
-    while pattern < end {
+fn lines(rt: &impl Print, marker: Marker, first: u32, end: u32) -> io::Result<()> {
+    for pattern in first..end {
         line(rt, pattern, symbol(marker, 0x20, pattern))?;
-        pattern += 1;
     }
     Ok(())
 }
 
 fn main(rt: HostRuntime) -> io::Result<()> {
     println!(rt; "braille")?;
-    lines(&rt, 1, 0, 256)?;
+    lines(&rt, Marker::Braille, 0, 256)?;
     println!(rt; "quadrant")?;
-    lines(&rt, 6, 0, 16)?;
+    lines(&rt, Marker::Quadrant, 0, 16)?;
     println!(rt; "sextant")?;
-    lines(&rt, 7, 1, 64)
+    lines(&rt, Marker::Sextant, 1, 64)
 }

@@ -10,15 +10,17 @@ use lib.ListN.{length, get_or, set, length-set}
 use lib.Seq.{get_or-set_same, get_or-set_other, set-set, set_comm}
 use lib.Pow.{pow-add, pow_pos}
 use lib.Bits.{bit_or, or_zero_l, or_block}
-use borrow.Author.Tests.{lt-ltb, ltb-true, ltb-false, eqb-true, eqb-false, ne_eqb}
-use Rattle.grids.specs.Markers.{by, dot_size, is_half_block}
+use borrow.Author.Tests.{lt-ltb, ltb-true, ltb-false, eqb-true, eqb-false}
+use Rattle.grids.specs.Markers.{by, dot_size, is_half_block, is_plain}
 use Rattle.grids.specs.Dots.{cell_index, bit_of}
 use Rattle.grids.specs.Painting.{paint_dots, inked_cell}
-use Rattle.columns.specs.Columns.{column_dots, is_char, column_mask, inked_down, braille_rows}
+use Rattle.columns.specs.Columns.{column_dots, column_mask, inked_down, braille_rows}
 use Rattle.grids.proofs.Words.{foldl-append}
 use Rattle.grids.proofs.Patterns.{or_assoc}
-use Rattle.grids.proofs.DotSizes.{single-dot, cell-index-by, bit-by}
+use Rattle.grids.proofs.DotSizes.{plain_size, cell-index-by, bit-by}
 use Rattle.grids.proofs.InkedCells.{ink-words, ink-past, dot-inked}
+use Rattle.grids.specs.declared.markers.Marker.{Marker}
+use Rattle.grids.specs.declared.markers.Marker.TheVariants.{Braille, Dot, Block, Bar, HalfBlock, Quadrant, Sextant, Custom}
 
 -- ---- a column in two parts
 column-parts : (column row m n : ℕ) → column_dots column row (m + n) ≡ column_dots column row m ++ column_dots column (row + m) n
@@ -53,11 +55,11 @@ ink-ink cells i a b word = go (ltb i (length cells / 5)) refl
 
 -- ---- dots of a column that lie in one cell
 -- their bits together
-abbrev column_bits : ℕ → ℕ → ℕ → ℕ → ℕ
+abbrev column_bits : Marker → ℕ → ℕ → ℕ → ℕ
 column_bits marker column row zero = 0
 column_bits marker column row (suc n) = bit_or (column_bits marker column row n) (bit_of marker column (row + n))
 
-module _ (marker columns rows word : ℕ) (other : is_half_block marker ≡ false) where
+module _ (marker : Marker) (columns rows word : ℕ) (other : is_half_block marker ≡ false) where
   -- 'Pattern and char grids ignore only a flat cell index past the end.'
   abbrev inked_at : List ℕ → ℕ → ℕ → List ℕ
   inked_at cells i bits = cond (ltb i (columns * rows)) (inked_cell cells i bits word) cells
@@ -110,17 +112,16 @@ ones-next (suc (suc (suc (suc n)))) h = absurd (omega arith)
 or-shift : (x y p : ℕ) → bit_or (x * 2 ^ p) (y * 2 ^ p) ≡ bit_or x y * 2 ^ p
 or-shift x y p = simp (add-zero, or_zero_l) at (or_block p x y 0 0 (pow_pos p) (pow_pos p))
 
-braille-size : dot_size 1 ≡ by 2 4
-unfolding dot_size
+braille-size : dot_size Braille ≡ by 2 4
 braille-size = refl
 
-mask-bits : (column row n : ℕ) → row % 4 + n ≤ 4 → column_bits 1 column row n ≡ column_mask column row n
+mask-bits : (column row n : ℕ) → row % 4 + n ≤ 4 → column_bits Braille column row n ≡ column_mask column row n
 unfolding column_mask
 mask-bits column row zero h = sym (zero-mul (2 ^ (row % 4 * 2 + column % 2)))
 mask-bits column row (suc n) h =
     let p : ℕ = row % 4 * 2 + column % 2 in
     let place : (row + n) % 4 * 2 + column % 2 ≡ n * 2 + p = omega arith in
-    let bit : bit_of 1 column (row + n) ≡ 2 ^ (n * 2) * 2 ^ p = bit-by 1 braille-size column (row + n) ∙ ap (λ (k : ℕ). 2 ^ k) place ∙ pow-add 2 (n * 2) p in
+    let bit : bit_of Braille column (row + n) ≡ 2 ^ (n * 2) * 2 ^ p = bit-by Braille braille-size column (row + n) ∙ ap (λ (k : ℕ). 2 ^ k) place ∙ pow-add 2 (n * 2) p in
     rw (mask-bits column row n (omega arith), bit)
     (or-shift (85 / 2 ^ (8 - n * 2)) (2 ^ (n * 2)) p ∙ ap (λ (x : ℕ). x * 2 ^ p) (ones-next n (omega arith)))
 
@@ -131,40 +132,40 @@ mask-aligned column row n e = rw e
 module _ (columns rows word column : ℕ) where
   -- n dots from a row on, all in its cell, or nothing where that is past the last
   pub braille-part : (cells : List ℕ) (row n : ℕ) → 0 < n → row % 4 + n ≤ 4
-      → paint_dots 1 columns rows word cells (column_dots column row n)
+      → paint_dots Braille columns rows word cells (column_dots column row n)
       ≡ cond (ltb (row / 4 * columns + column / 2) (columns * rows)) (inked_cell cells (row / 4 * columns + column / 2) (column_mask column row n) word) cells
   braille-part cells row zero l h = absurd (omega arith)
   braille-part cells row (suc n) l h =
-      dots-in-cell 1 columns rows word refl cells column row (row / 4 * columns + column / 2) n place ∙ rw (mask-bits column row (suc n) h)
+      dots-in-cell Braille columns rows word refl cells column row (row / 4 * columns + column / 2) n place ∙ rw (mask-bits column row (suc n) h)
     where
-      place : (k : ℕ) → k ≤ n → cell_index 1 columns column (row + k) ≡ row / 4 * columns + column / 2
+      place : (k : ℕ) → k ≤ n → cell_index Braille columns column (row + k) ≡ row / 4 * columns + column / 2
       place k le =
           let e : (row + k) / 4 ≡ row / 4 = omega arith in
-          cell-index-by 1 braille-size columns column (row + k) ∙ rw e
+          cell-index-by Braille braille-size columns column (row + k) ∙ rw e
 
   braille-inside : (cells : List ℕ) (row n : ℕ) → 0 < n → row % 4 + n ≤ 4 → row / 4 * columns + column / 2 < columns * rows
-      → paint_dots 1 columns rows word cells (column_dots column row n) ≡ inked_cell cells (row / 4 * columns + column / 2) (column_mask column row n) word
+      → paint_dots Braille columns rows word cells (column_dots column row n) ≡ inked_cell cells (row / 4 * columns + column / 2) (column_mask column row n) word
   braille-inside cells row n l h inside = braille-part cells row n l h ∙ rw (lt-ltb (row / 4 * columns + column / 2) (columns * rows) inside)
 
   -- n whole cells from a row on
   braille-cells : (cells : List ℕ) (row n : ℕ) → row % 4 ≡ 0 → row / 4 * columns + n * columns + column / 2 < columns * rows + columns
-      → paint_dots 1 columns rows word cells (column_dots column row (n * 4)) ≡ inked_down columns (column_mask column 0 4) word cells (row / 4 * columns + column / 2) n
+      → paint_dots Braille columns rows word cells (column_dots column row (n * 4)) ≡ inked_down columns (column_mask column 0 4) word cells (row / 4 * columns + column / 2) n
   braille-cells cells row n aligned inside =
-      cells-inked 1 columns rows word refl 3 (column_mask column 0 4) (row / 4 * columns + column / 2) column row n cells place mask within
+      cells-inked Braille columns rows word refl 3 (column_mask column 0 4) (row / 4 * columns + column / 2) column row n cells place mask within
     where
-      place : (j k : ℕ) → k ≤ 3 → cell_index 1 columns column (row + j * 4 + k) ≡ row / 4 * columns + column / 2 + j * columns
+      place : (j k : ℕ) → k ≤ 3 → cell_index Braille columns column (row + j * 4 + k) ≡ row / 4 * columns + column / 2 + j * columns
       place j k le =
           let e : (row + j * 4 + k) / 4 ≡ row / 4 + j = omega arith in
-          cell-index-by 1 braille-size columns column (row + j * 4 + k) ∙ rw e (omega arith)
+          cell-index-by Braille braille-size columns column (row + j * 4 + k) ∙ rw e (omega arith)
 
-      mask : (j : ℕ) → column_bits 1 column (row + j * 4) 4 ≡ column_mask column 0 4
+      mask : (j : ℕ) → column_bits Braille column (row + j * 4) 4 ≡ column_mask column 0 4
       mask j = mask-bits column (row + j * 4) 4 (omega arith) ∙ mask-aligned column (row + j * 4) 4 (omega arith)
 
       within : (j : ℕ) → j < n → row / 4 * columns + column / 2 + j * columns < columns * rows
       within j l = omega (arith, mul-le-mul_right {m = j + 1} {n = n} columns (omega arith))
 
   pub braille-rows : (cells : List ℕ) (low high : ℕ) → low ≤ high → high / 4 * columns + column / 2 < columns * rows
-      → paint_dots 1 columns rows word cells (column_dots column low (high + 1 - low)) ≡ braille_rows columns word cells column low high
+      → paint_dots Braille columns rows word cells (column_dots column low (high + 1 - low)) ≡ braille_rows columns word cells column low high
   unfolding braille_rows
   braille-rows cells low high le inside = go (eqb (low / 4) (high / 4)) refl
     where
@@ -180,7 +181,7 @@ module _ (columns rows word column : ℕ) where
       whole : List ℕ
       whole = inked_down columns (column_mask column 0 4) word first (head + columns) between
 
-      go : (t : Bool) → eqb (low / 4) (high / 4) ≡ t → paint_dots 1 columns rows word cells (column_dots column low (high + 1 - low))
+      go : (t : Bool) → eqb (low / 4) (high / 4) ≡ t → paint_dots Braille columns rows word cells (column_dots column low (high + 1 - low))
           ≡ cond t (inked_cell cells head (column_mask column low (high - low + 1)) word) (inked_cell whole (high / 4 * columns + column / 2) (column_mask column 0 (high % 4 + 1)) word)
       go true e =
           let same : low / 4 ≡ high / 4 = eqb-true (low / 4) (high / 4) e in
@@ -194,25 +195,32 @@ module _ (columns rows word column : ℕ) where
           let next : row / 4 * columns + column / 2 ≡ head + columns = rw below (omega arith) in
           let last : (row + between * 4) / 4 ≡ high / 4 = omega arith in
           let far : high / 4 * columns ≡ (low / 4 + 1 + between) * columns = ap (λ (q : ℕ). q * columns) (omega arith) in
-          rw n (paint-parts 1 columns rows word refl cells column low (4 - low % 4) (between * 4 + (high % 4 + 1))
+          rw n (paint-parts Braille columns rows word refl cells column low (4 - low % 4) (between * 4 + (high % 4 + 1))
           ∙ rw (braille-inside cells low (4 - low % 4) (omega arith) (omega arith) (omega (arith, far)))
-          (paint-parts 1 columns rows word refl first column row (between * 4) (high % 4 + 1)
+          (paint-parts Braille columns rows word refl first column row (between * 4) (high % 4 + 1)
           ∙ rw (braille-cells first row between (omega arith) (omega (arith, far, next)), next)
           (braille-inside whole (row + between * 4) (high % 4 + 1) (omega arith) (omega arith) (rw last inside)
           ∙ rw (last, mask-aligned column (row + between * 4) (high % 4 + 1) (omega arith)))))
 
 -- ---- the grids of one dot a cell
-char-not : (marker k : ℕ) → is_char marker ≡ true → is_char k ≡ false → marker ≡ k → ⊥
-char-not marker k h f e = let z : ◌≡◌ {A = ℕ} 0 1 = cc in omega arith
+plain-other : (marker : Marker) → is_plain marker ≡ true → is_half_block marker ≡ false
+plain-other Braille plain = refl
+plain-other Dot plain = refl
+plain-other Block plain = refl
+plain-other Bar plain = refl
+plain-other HalfBlock plain = cc
+plain-other Quadrant plain = refl
+plain-other Sextant plain = refl
+plain-other Custom plain = refl
 
-pub char-rows : (marker columns rows word column : ℕ) (cells : List ℕ) (low high : ℕ) → is_char marker ≡ true → low ≤ high → high * columns + column < columns * rows
+pub char-rows : (marker : Marker) (columns rows word column : ℕ) (cells : List ℕ) (low high : ℕ) → is_plain marker ≡ true → low ≤ high → high * columns + column < columns * rows
     → paint_dots marker columns rows word cells (column_dots column low (high + 1 - low)) ≡ inked_down columns 1 word cells (low * columns + column) (high - low + 1)
 char-rows marker columns rows word column cells low high char le inside =
     let n : high + 1 - low ≡ (high - low + 1) * 1 = omega arith in
-    rw n (cells-inked marker columns rows word (ne_eqb marker 5 (char-not marker 5 char refl)) 0 1 (low * columns + column) column low (high - low + 1) cells place mask within)
+    rw n (cells-inked marker columns rows word (plain-other marker char) 0 1 (low * columns + column) column low (high - low + 1) cells place mask within)
   where
     one : dot_size marker ≡ by 1 1
-    one = single-dot marker (char-not marker 1 char refl) (char-not marker 5 char refl) (char-not marker 6 char refl) (char-not marker 7 char refl)
+    one = plain_size marker char
 
     place : (j k : ℕ) → k ≤ 0 → cell_index marker columns column (low + j * 1 + k) ≡ low * columns + column + j * columns
     place j k l =

@@ -1,16 +1,14 @@
 -- A column of dots, and how it is filled a cell at a time: document 01, 'FilledLine: from each dot of the walk its column to the dot row of `fill_to_y`', and 'Pattern bits are row by row'.
-use Rattle.std.specs.Prelude.{ℕ, zero, suc, ◌+◌, ◌-◌, ◌*◌, ◌/◌, ◌%◌, ◌^◌, Bool, cond, ◌||◌, List, eqb}
+use Rattle.std.specs.Prelude.{ℕ, zero, suc, ◌+◌, ◌-◌, ◌*◌, ◌/◌, ◌%◌, ◌^◌, cond, List, eqb}
 use Rattle.walk.specs.Tabulate.{tabulate}
 use Rattle.walk.specs.declared.bresenham.Dot.{Dot}
-use Rattle.grids.specs.Painting.{inked_cell}
+use Rattle.grids.specs.declared.markers.Marker.{Marker}
+use Rattle.grids.specs.Painting.{inked_cell, paint_dots}
+use Rattle.columns.specs.declared.Strip.{Strip}
 
 -- n dots of a column, from a row on
 abbrev pub column_dots : ℕ → ℕ → ℕ → List Dot
 column_dots column row n = tabulate n (λ k. record { column = column; row = row + k })
-
--- '1 by 1 dots for markers 2, 3, 4 and 8'
-abbrev pub is_char : ℕ → Bool
-is_char marker = ((eqb marker 2 || eqb marker 3) || eqb marker 4) || eqb marker 8
 
 -- the bits of n dots of a column that lie in one Braille cell: each two places above the last, all four together 85
 unfoldable pub column_mask : ℕ → ℕ → ℕ → ℕ
@@ -33,3 +31,7 @@ braille_rows columns word cells column low high =
     tail
     (column_mask column 0 (high % 4 + 1))
     word)
+
+-- a column's dots from one row to another painted one after the other
+abbrev pub strip_painted : Marker → Strip → List ℕ → List ℕ
+strip_painted marker s cells = paint_dots marker s.columns s.rows s.word cells (column_dots s.column s.low (s.high + 1 - s.low))

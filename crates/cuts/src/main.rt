@@ -3,15 +3,9 @@
 // the number of cuts that clipping makes.
 #![tactic(auto)]
 
-use form::fields::{from_bits, number64};
+use bundle::questions::{answer_questions, float_at};
 use std::io;
-use std::io::Read;
 use walk::clip::{Bounds, Clipped, Segment, clip_line};
-
-fn float_at(question: &[u8], at: usize) -> f64 {
-    let bits = number64(question, at);
-    from_bits(bits)
-}
 
 fn bounds_of(question: &[u8]) -> Bounds {
     let left = float_at(question, 0);
@@ -34,34 +28,24 @@ fn line_of(question: &[u8]) -> Segment {
     Segment { x1, y1, x2, y2 }
 }
 
-fn print_answer(rt: &impl Print, clipped: Clipped) -> bool {
-    let printed = match clipped {
-        Clipped::Line(_ends, cuts) => println!(rt; "line {cuts}"),
-        Clipped::NoLine(cuts) => println!(rt; "none {cuts}"),
-    };
-    printed.is_ok()
-}
-
-// One question. Answers whether another may follow.
-fn answer_question(rt: &(impl io::Input + Print)) -> bool {
-    let mut question = [0u8; 64];
-    if rt.reader().read_exact(&mut question).is_err() {
-        return false;
+fn print_answer(rt: &impl Print, clipped: Clipped) -> io::Result<()> {
+    let cuts = clipped.cuts;
+    match clipped.line {
+        Some(_) => println!(rt; "line {cuts}"),
+        None => println!(rt; "none {cuts}"),
     }
-    let bounds = bounds_of(&question);
-    let line = line_of(&question);
-    let clipped = clip_line(bounds, line);
-    print_answer(rt, clipped)
 }
 
-// The count ends the loop whatever is read.
+fn answer_question(rt: &impl Print, question: &[u8]) -> io::Result<()> {
+    let bounds = bounds_of(question);
+    let line = line_of(question);
+    print_answer(rt, clip_line(bounds, line))
+}
+
 fn main(rt: HostRuntime) {
-    let mut left: u32 = 4294967295;
-    while left > 0 {
-        if answer_question(&rt) {
-            left -= 1;
-        } else {
-            return;
-        }
-    }
+    let _ = answer_questions(
+        &rt,
+        &mut [0u8; 64],
+        |question| answer_question(&rt, question),
+    );
 }

@@ -1,11 +1,12 @@
--- A row of the canvas is a stretch of the screen's cells: where it stands, what is put on it, and how one follows another.
-use Rattle.std.proofs.Common.{◌≡◌, ℕ, zero, suc, ◌+◌, ◌-◌, ◌*◌, ◌/◌, ◌%◌, ◌<◌, ◌≤◌, min, false, ltb, List, length, get_or, set, sym, refl, ap, ◌∙◌, add-zero, add_assoc, add-suc, mul-le-mul, arith, ltb-false, le-ltb, lt-ltb, eqb-true}
+-- Cells of the screen side by side: what is laid on them in parts, each a slice of its own, and the rows of a canvas one after another.
+use Rattle.std.proofs.Common.{◌≡◌, ℕ, zero, suc, Bool, true, ◌+◌, ◌-◌, ◌*◌, ◌/◌, ◌%◌, ◌<◌, ◌≤◌, min, false, ltb, List, ◌++◌, length, get_or, set, take, drop, length-take, length-drop, length-set, get_or-take, get_or-drop, sym, refl, ap, ◌∙◌, add-zero, add-suc, mul-le-mul, arith, ltb-true, ltb-false, le-ltb, lt-ltb, eqb-true}
+use Rattle.std.proofs.lemmas.List.{take-append-drop, set-append_left, set-append_right, get_or_append_left, get_or-append_right}
 use lib.Arith.{digits_div, digits_mod}
 use lib.Bits.{bit_or, or_add_and, and_le_l, and_le_r}
-use lib.Seq.{set-get_or}
 use borrow.Author.Tests.{not-false}
+use borrow.Rule.Slice.PartMut.{put_mid, post_of}
 use Rattle.floats.proofs.Cases.{or-false-left, or-false-right}
-use Rattle.grids.specs.Cells.{cell_at, words_at, blank_cell}
+use Rattle.grids.specs.Cells.{cell_at, words_at}
 use Rattle.grids.specs.declared.layer.LayerCell.{LayerCell}
 use Rattle.ledger.specs.Calls.{passes_edge, bad_screen}
 use Rattle.ledger.specs.Screen.{cell_on, put_on, layered}
@@ -13,6 +14,8 @@ use Rattle.ledger.specs.declared.screen.ScreenCell.{ScreenCell}
 use Rattle.ledger.specs.Model.{puts, spot, picture_at}
 use Rattle.ledger.specs.declared.screen.Area.{Area}
 use Rattle.ledger.specs.declared.state.Canvas.{Canvas}
+use Rattle.ledger.proofs.ScreenCells.{length-puts}
+use Rattle.ledger.proofs.Written.{puts-same}
 
 -- what a cell that no layer set has
 abbrev pub nothing : LayerCell
@@ -21,82 +24,118 @@ nothing = record { symbol = 0; foreground = 0; background = 0 }
 pub or-zero : (a b : ℕ) → bit_or a b ≡ 0 → (a ≡ 0) × (b ≡ 0)
 or-zero a b e = (omega (arith, or_add_and a b, and_le_r a b), omega (arith, or_add_and a b, and_le_l a b))
 
+pub length-part : (l : List ℕ) (a k : ℕ) → a + k ≤ length l → length (take k (drop a l)) ≡ k
+length-part l a k h = simp (length-take, length-drop) (omega arith)
+
 -- ---- a cell of the store
+pub cell-held : (cells : List ℕ) (i : ℕ) → i * 5 + 5 ≤ length cells → cell_at cells i ≡ words_at cells i
+unfolding cell_at
+cell-held cells i h = rw (lt-ltb i (length cells / 5) (omega arith))
+
+pub picture-past : (cells : List ℕ) (i : ℕ) → length cells < i * 5 + 5 → picture_at cells i ≡ nothing
+unfolding cell_at
+picture-past cells i h = let e : length cells / 5 ≤ i = omega arith in rw (le-ltb i (length cells / 5) e)
+
+picture-words : (cells : List ℕ) (i : ℕ) → i * 5 + 5 ≤ length cells
+    → picture_at cells i ≡ record { symbol = get_or cells (i * 5) 0; foreground = get_or cells (i * 5 + 1) 0; background = get_or cells (i * 5 + 2) 0 }
+unfolding words_at
+picture-words cells i h = rw (cell-held cells i h)
+
 module _ (cells : List ℕ) where
-  pub cell-held : (i : ℕ) → i * 5 + 5 ≤ length cells → cell_at cells i ≡ words_at cells i
-  unfolding cell_at
-  cell-held i h = rw (lt-ltb i (length cells / 5) (omega arith))
+  -- cells without a word
+  pub picture-nothing : ((k : ℕ) → k < length cells → get_or cells k 0 ≡ 0) → (i : ℕ) → picture_at cells i ≡ nothing
+  picture-nothing none i = go (ltb (length cells) (i * 5 + 5)) refl
+    where
+      go : (t : Bool) → ltb (length cells) (i * 5 + 5) ≡ t → picture_at cells i ≡ nothing
+      go true e = picture-past cells i (ltb-true _ _ e)
+      go false e =
+          let h : i * 5 + 5 ≤ length cells = ltb-false _ _ e in
+          picture-words cells i h ∙ rw (none (i * 5) (omega arith), none (i * 5 + 1) (omega arith), none (i * 5 + 2) (omega arith))
 
-  cell-past : (i : ℕ) → length cells / 5 ≤ i → cell_at cells i ≡ blank_cell
-  unfolding cell_at
-  cell-past i h = rw (le-ltb i (length cells / 5) h)
+  -- a cell of the k words from the word a on, where these hold it or go to the end
+  pub picture-part : (a k from i : ℕ) → a ≡ min (from * 5) (length cells) → min (i * 5 + 5) (length cells - a) ≤ k → picture_at (take k (drop a cells)) i ≡ picture_at cells (from + i)
+  picture-part a k from i e f =
+      go (ltb (length cells) ((from + i) * 5 + 5)) refl
+    where
+      part : List ℕ
+      part = take k (drop a cells)
 
-  picture-past : (i : ℕ) → length cells / 5 ≤ i → picture_at cells i ≡ nothing
-  picture-past i h = rw (cell-past i h)
+      long : length (take k (drop a cells)) ≡ min k (length cells - a)
+      long = simp (length-take, length-drop) refl
 
-  picture-nothing : (i : ℕ) → i * 5 + 5 ≤ length cells → get_or cells (i * 5) 0 ≡ 0 → get_or cells (i * 5 + 1) 0 ≡ 0 → get_or cells (i * 5 + 2) 0 ≡ 0 → picture_at cells i ≡ nothing
-  unfolding words_at
-  picture-nothing i h s f b = rw (cell-held i h, s, f, b)
+      word : from * 5 ≤ length cells → (x y j : ℕ) → x ≡ i * 5 + j → y ≡ (from + i) * 5 + j → x < k → get_or (take k (drop a cells)) x 0 ≡ get_or cells y 0
+      word h x y j p q l =
+          let there : a + x ≡ y = omega arith in
+          get_or-take k (drop a cells) x 0 l ∙ get_or-drop a cells x 0 ∙ ap (λ (z : ℕ). get_or cells z 0) there
 
-  -- n cells without a word
-  pub pictures-nothing : (from n : ℕ) → n ≤ length cells / 5 - from → ((k : ℕ) → k < n * 5 → get_or cells (from * 5 + k) 0 ≡ 0) → (i : ℕ) → i < n → picture_at cells (from + i) ≡ nothing
-  pictures-nothing from n room none i h =
-      let word : (k : ℕ) → k < 5 → get_or cells ((from + i) * 5 + k) 0 ≡ 0 =
-      λ k l. let e : (from + i) * 5 + k ≡ from * 5 + (i * 5 + k) = omega arith in ap (λ (x : ℕ). get_or cells x 0) e ∙ none (i * 5 + k) (omega arith) in
-      let zeroth : (from + i) * 5 ≡ (from + i) * 5 + 0 = omega arith in
-      picture-nothing (from + i) (omega arith) (ap (λ (x : ℕ). get_or cells x 0) zeroth ∙ word 0 (omega arith)) (word 1 (omega arith)) (word 2 (omega arith))
+      go : (t : Bool) → ltb (length cells) ((from + i) * 5 + 5) ≡ t → picture_at (take k (drop a cells)) i ≡ picture_at cells (from + i)
+      go true g =
+          let h = ltb-true _ _ g in
+          picture-past (take k (drop a cells)) i (rw long (omega arith)) ∙ sym (picture-past cells (from + i) h)
+      go false g =
+          let h = ltb-false _ _ g in
+          let l : from * 5 ≤ length cells = omega arith in
+          picture-words (take k (drop a cells)) i (rw long (omega arith))
+          ∙ rw (word l (i * 5) ((from + i) * 5) 0 (omega arith) (omega arith) (omega arith), word l (i * 5 + 1) ((from + i) * 5 + 1) 1 (omega arith) (omega arith) (omega arith), word l (i * 5 + 2) ((from + i) * 5 + 2) 2 (omega arith) (omega arith) (omega arith))
+          (sym (picture-words cells (from + i) h))
 
--- nothing put on a cell is its background alone
-pub put-nothing : (words : List ℕ) (j background : ℕ) → set words (j * 3 + 2) background ≡ put_on words j (layered background nothing (cell_on words j))
-put-nothing words j background = rw (set-get_or words (j * 3) 0, set-get_or words (j * 3 + 1) 0)
+-- ---- a write into a part of the screen
+module _ (words : List ℕ) (a k : ℕ) (within : a ≤ length words) where
+  before : length (take a words) ≡ a
+  before = simp length-take (omega arith)
+
+  set-part : (ys : List ℕ) (x y v : ℕ) → x ≡ a + y → y < length ys → set (put_mid a k words ys) x v ≡ put_mid a k words (set ys y v)
+  set-part ys x y v e h =
+      let i : x - a ≡ y = omega arith in
+      set-append_right (take a words) (ys ++ post_of a k words) a x v before (omega arith)
+      ∙ rw (i, set-append_left ys (post_of a k words) y v h)
+
+  get-part : (ys : List ℕ) (x y : ℕ) → x ≡ a + y → y < length ys → get_or (put_mid a k words ys) x 0 ≡ get_or ys y 0
+  get-part ys x y e h =
+      let i : x - a ≡ y = omega arith in
+      get_or-append_right (take a words) (ys ++ post_of a k words) a x 0 before (omega arith)
+      ∙ rw (i, get_or_append_left ys (post_of a k words) 0 y h)
+
+  -- a cell of the part
+  module _ (at : ℕ) (e : a ≡ at * 3) where
+    on-part : (ys : List ℕ) (j : ℕ) → j * 3 + 3 ≤ length ys → cell_on (put_mid a k words ys) (at + j) ≡ cell_on ys j
+    on-part ys j h = rw (
+      get-part ys ((at + j) * 3) (j * 3) (omega arith) (omega arith),
+      get-part ys ((at + j) * 3 + 1) (j * 3 + 1) (omega arith) (omega arith),
+      get-part ys ((at + j) * 3 + 2) (j * 3 + 2) (omega arith) (omega arith),
+    )
+
+    put-part : (ys : List ℕ) (j : ℕ) (c : ScreenCell) → j * 3 + 3 ≤ length ys → put_on (put_mid a k words ys) (at + j) c ≡ put_mid a k words (put_on ys j c)
+    put-part ys j c h = rw (
+      set-part ys ((at + j) * 3) (j * 3) c.symbol (omega arith) (omega arith),
+      set-part (set ys (j * 3) c.symbol) ((at + j) * 3 + 1) (j * 3 + 1) c.foreground (omega arith) (simp length-set (omega arith)),
+      set-part (set (set ys (j * 3) c.symbol) (j * 3 + 1) c.foreground) ((at + j) * 3 + 2) (j * 3 + 2) c.background (omega arith) (simp length-set (omega arith)),
+    )
+
+    -- puts into the part are puts into the screen
+    pub puts-part : (become : ℕ → ScreenCell → ScreenCell) (n : ℕ) → n * 3 ≤ k → a + k ≤ length words
+        → put_mid a k words (puts (λ i. i) become (take k (drop a words)) n) ≡ puts (λ i. at + i) become words n
+    puts-part become zero h room = rw (take-append-drop k (drop a words), take-append-drop a words)
+    puts-part become (suc n) h room =
+        let p : List ℕ = puts (λ i. i) become (take k (drop a words)) n in
+        let ih : put_mid a k words p ≡ puts (λ i. at + i) become words n = puts-part become n (omega arith) room in
+        let long : n * 3 + 3 ≤ length p = rw (length-puts (λ i. i) become (take k (drop a words)) n) (simp (length-take, length-drop) (omega arith)) in
+        sym (put-part p n (become n (cell_on p n)) long)
+        ∙ rw (← on-part p n long, ih)
 
 -- ---- puts, one stretch after another
-puts-same : (at at' : ℕ → ℕ) (become become' : ℕ → ScreenCell → ScreenCell) (words : List ℕ) (n : ℕ) → ((i : ℕ) → i < n → at i ≡ at' i) → ((i : ℕ) → i < n → become i ≡ become' i)
-    → puts at become words n ≡ puts at' become' words n
-puts-same at at' become become' words zero p q = refl
-puts-same at at' become become' words (suc n) p q =
-    rw (p n (omega arith), q n (omega arith), puts-same at at' become become' words n (λ i h. p i (omega arith)) (λ i h. q i (omega arith)))
-
 puts-add : (at : ℕ → ℕ) (become : ℕ → ScreenCell → ScreenCell) (words : List ℕ) (m n : ℕ) → puts (λ i. at (m + i)) (λ i. become (m + i)) (puts at become words m) n ≡ puts at become words (m + n)
 puts-add at become words m zero = ap (puts at become words) (sym (add-zero m))
 puts-add at become words m (suc n) = rw (puts-add at become words m n) (ap (puts at become words) (sym (add-suc m n)))
 
--- ---- cells side by side
-module _ (cells : List ℕ) (background at from : ℕ) (words : List ℕ) where
-  abbrev become : ℕ → ScreenCell → ScreenCell
-  become i = layered background (picture_at cells (from + i))
-
-  pub stretch-blank : (n : ℕ) → ((i : ℕ) → i < n → picture_at cells (from + i) ≡ nothing)
-      → puts (λ i. at + i) (λ i. layered background nothing) words n ≡ puts (λ i. at + i) (λ i. layered background (picture_at cells (from + i))) words n
-  stretch-blank n none = puts-same (λ i. at + i) (λ i. at + i) (λ i. layered background nothing) become words n (λ i h. refl) (λ i h. ap (layered background) (sym (none i h)))
-
-  stretch-next : (m n : ℕ)
-      → puts (λ i. at + m + i) (λ i. layered background (picture_at cells (from + m + i))) (puts (λ i. at + i) (λ i. layered background (picture_at cells (from + i))) words m) n
-      ≡ puts (λ i. at + i) (λ i. layered background (picture_at cells (from + i))) words (m + n)
-  stretch-next m n =
-      puts-same (λ i. at + m + i) (λ i. at + (m + i)) (λ i. layered background (picture_at cells (from + m + i))) (λ i. become (m + i)) (puts (λ i. at + i) become words m) n
-      (λ i h. omega arith)
-      (λ i h. ap (λ (k : ℕ). layered background (picture_at cells k)) (add_assoc from m i))
-      ∙ puts-add (λ i. at + i) become words m n
-
-  pub stretch-on : (m n : ℕ) (s : List ℕ) → s ≡ puts (λ i. at + i) (λ i. layered background (picture_at cells (from + i))) words m
-      → puts (λ i. at + m + i) (λ i. layered background (picture_at cells (from + m + i))) s n ≡ puts (λ i. at + i) (λ i. layered background (picture_at cells (from + i))) words (m + n)
-  stretch-on m n s e = rw e (stretch-next m n)
-
-  pub stretch-rest : (m n : ℕ) → m ≤ n
-      → puts (λ i. at + m + i) (λ i. layered background (picture_at cells (from + m + i))) (puts (λ i. at + i) (λ i. layered background (picture_at cells (from + i))) words m) (n - m)
-      ≡ puts (λ i. at + i) (λ i. layered background (picture_at cells (from + i))) words n
-  stretch-rest m n h = let whole : m + (n - m) ≡ n = omega arith in stretch-next m (n - m) ∙ ap (puts (λ i. at + i) become words) whole
-
-  -- a row: the cells that the store has, and blank ones past the last
-  pub row-parts : (columns n : ℕ) → n ≡ min columns (length cells / 5 - from)
-      → puts (λ i. at + n + i) (λ i. layered background nothing) (puts (λ i. at + i) (λ i. layered background (picture_at cells (from + i))) words n) (columns - n)
-      ≡ puts (λ i. at + i) (λ i. layered background (picture_at cells (from + i))) words columns
-  row-parts columns n e =
-      puts-same (λ i. at + n + i) (λ i. at + n + i) (λ i. layered background nothing) (λ i. layered background (picture_at cells (from + n + i))) (puts (λ i. at + i) become words n) (columns - n)
-      (λ i h. refl)
-      (λ i h. ap (layered background) (sym (picture-past cells (from + n + i) (omega arith))))
-      ∙ stretch-rest n columns (omega arith)
+-- the next n cells, laid in a part of their own
+pub next-part : (background : ℕ) (pictures own : ℕ → LayerCell) (words screen : List ℕ) (a k m n whole : ℕ) → a ≡ m * 3 → n * 3 ≤ k → a + k ≤ length screen → whole ≡ m + n
+    → screen ≡ puts (λ i. i) (λ i. layered background (pictures i)) words m → ((i : ℕ) → i < n → own i ≡ pictures (m + i))
+    → put_mid a k screen (puts (λ i. i) (λ i. layered background (own i)) (take k (drop a screen)) n) ≡ puts (λ i. i) (λ i. layered background (pictures i)) words whole
+next-part background pictures own words screen a k m n whole e h room all s same =
+    puts-part screen a k (omega arith) m e (λ i. layered background (own i)) n h room
+    ∙ puts-same (λ i. m + i) (λ i. m + i) (λ i. layered background (own i)) (λ i. layered background (pictures (m + i))) screen n (λ i l. refl) (λ i l old. ap (λ (p : LayerCell). layered background p old) (same i l))
+    ∙ rw (s, all) (puts-add (λ i. i) (λ i. layered background (pictures i)) words m n)
 
 -- ---- the rows one after another
 module _ (columns rows : ℕ) (a : Area) (words : List ℕ) (edge : passes_edge columns rows a ≡ false) (good : bad_screen a words ≡ false) where
@@ -120,13 +159,15 @@ module _ (c : Canvas) (cells : List ℕ) (a : Area) (words : List ℕ) where
   unfolding spot
   row-place row column h = rw (digits_mod row h, digits_div row h) (omega arith)
 
-  pub row_first : words ≡ puts placed laid words (0 * c.columns)
-  row_first = let e : 0 ≡ 0 * c.columns = omega arith in ap (puts placed laid words) e
-
-  pub row_next : (row : ℕ) → puts (λ i. spot a 0 row + i) (λ i. layered c.background (picture_at cells (row * c.columns + i))) (puts placed laid words (row * c.columns)) c.columns ≡ puts placed laid words ((row + 1) * c.columns)
-  row_next row =
-      let k : ℕ = row * c.columns in
-      let e : k + c.columns ≡ (row + 1) * c.columns = omega arith in
-      puts-same (λ i. spot a 0 row + i) (λ i. placed (k + i)) (λ i. laid (k + i)) (λ i. laid (k + i)) (puts placed laid words k) c.columns (row-place row) (λ i h. refl)
-      ∙ puts-add placed laid words k c.columns
-      ∙ ap (puts placed laid words) e
+  -- the next row, laid in a part of its own
+  pub row_next : (row at from k f : ℕ) (screen : List ℕ) → at ≡ spot a 0 row * 3 → from ≡ min (row * c.columns * 5) (length cells) → k ≡ c.columns * 3 → at + k ≤ length screen
+      → f ≡ min (from + c.columns * 5) (length cells) - from
+      → screen ≡ puts placed laid words (row * c.columns)
+      → put_mid at k screen (puts (λ i. i) (λ i. layered c.background (picture_at (take f (drop from cells)) i)) (take k (drop at screen)) c.columns) ≡ puts placed laid words ((row + 1) * c.columns)
+  row_next row at from k f screen e g w room few s =
+      let n : ℕ = row * c.columns in
+      let all : (row + 1) * c.columns ≡ n + c.columns = omega arith in
+      puts-part screen at k (omega arith) (spot a 0 row) e (λ i. layered c.background (picture_at (take f (drop from cells)) i)) c.columns (omega arith) room
+      ∙ puts-same (λ i. spot a 0 row + i) (λ i. placed (n + i)) (λ i. layered c.background (picture_at (take f (drop from cells)) i)) (λ i. laid (n + i)) screen c.columns (row-place row)
+      (λ i l old. ap (λ (p : LayerCell). layered c.background p old) (picture-part cells from f n i g (omega arith)))
+      ∙ rw (s, all) (puts-add placed laid words n c.columns)

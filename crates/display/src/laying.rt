@@ -1,5 +1,5 @@
 // The picture and the labels laid on the screen, three plain words a cell.
-ghost use Rattle.std.specs.Prelude.{◌≡◌, ℕ, ◌+◌, ◌-◌, ◌*◌, ◌/◌, ◌<◌, ◌≤◌, min, true, false, length};
+ghost use Rattle.std.specs.Prelude.{◌≡◌, ℕ, ◌+◌, ◌-◌, ◌*◌, ◌/◌, ◌^◌, ◌<◌, ◌≤◌, min, true, false, length, get_or};
 ghost use Rattle.grids.specs.Lists.{foldl};
 ghost use Rattle.view.specs.Limits.{max_labels};
 ghost use Rattle.ledger.specs.Calls.{passes_edge, bad_screen};
@@ -8,15 +8,15 @@ ghost use Rattle.ledger.specs.Labels.{place_of, label_at, held_labels};
 ghost use Rattle.ledger.specs.Model.{spot, puts, picture_at, laid_screen, fitting_at, fitting, written_label, label_cells};
 
 use grids::painting::cell_count;
-use ledger::screen::{Area, ScreenCell};
+use ledger::screen::Area;
 use ledger::state::Canvas;
 
 // The area passes an edge of the screen.
 pub fn passes_edge(columns: u16, rows: u16, a: Area) -> bool
     ensures { result ≡ passes_edge columns rows a }
 {
-    ((a.columns as u32) < (a.x as u32) + (columns as u32))
-        | ((a.rows as u32) < (a.y as u32) + (rows as u32))
+    (u32::from(a.columns) < u32::from(a.x) + u32::from(columns))
+        | (u32::from(a.rows) < u32::from(a.y) + u32::from(rows))
 }
 
 // The screen has another number of cells than its size says.
@@ -30,58 +30,25 @@ pub fn is_bad_screen(a: Area, words: &[u32]) -> bool
 pub fn value_or(word: u32, other: u32) -> u32
     ensures { result ≡ or_else word other }
 {
-    if word == 0 { other } else { word - 1 }
+    word.checked_sub(1).unwrap_or(other)
 }
 
-fn cell_on(screen: &[u32], j: usize) -> ScreenCell
-    ensures { j * 3 + 3 ≤ length screen.now → result ≡ cell_on screen.now j }
-{
-    if j < screen.len() / 3 {
-        let k = j * 3;
-        return ScreenCell {
-            symbol: screen[k],
-            foreground: screen[k + 1],
-            background: screen[k + 2],
-        };
-    }
-    ScreenCell {
-        symbol: 0,
-        foreground: 0,
-        background: 0,
-    }
-}
-
-fn put_on(screen: &mut [u32], j: usize, c: ScreenCell)
-    ensures { j * 3 + 3 ≤ length screen.old → screen.new ≡ put_on screen.old j c }
-{
-    if j < screen.len() / 3 {
-        let k = j * 3;
-        screen[k] = c.symbol;
-        screen[k + 1] = c.foreground;
-        screen[k + 2] = c.background;
-    }
-}
-
-fn wide(x: u32) -> usize
-    ensures { result ≡ x }
-{
-    x as usize
-}
-
-// A column and row of the area, as a cell of the screen.
+// A column and row of the area, as a cell of the screen. A u32 is cast by `as`, since usize has no From of it.
 fn spot_index(a: Area, column: u32, row: u32) -> usize
-    ensures { result ≡ spot a column row }
+    ensures place { result ≡ spot a column row }
+    ensures small { result < 2 ^ 50 }
 {
-    (wide(a.y as u32) + wide(row)) * wide(a.columns as u32) + (wide(a.x as u32) + wide(column))
+    (usize::from(a.y) + row as usize) * usize::from(a.columns)
+        + (usize::from(a.x) + column as usize)
 }
 
 // A cell of the store laid on a cell of the screen; both are there. 'Background first, then layers'.
-fn lay_cell(screen: &mut [u32], at: usize, cells: &[u32], from: usize, background: u32)
-    requires { (at * 3 + 3 ≤ length screen.old) × (from * 5 + 5 ≤ length cells.now) }
-    ensures { screen.new ≡ put_on screen.old at (layered background (picture_at cells.now from) (cell_on screen.old at)) }
+fn lay_cell(screen: &mut [u32], cells: &[u32], i: usize, background: u32)
+    requires { (i * 3 + 3 ≤ length screen.old) × (i * 5 + 5 ≤ length cells.now) }
+    ensures { screen.new ≡ put_on screen.old i (layered background (picture_at cells.now i) (cell_on screen.old i)) }
 {
-    let j = at * 3;
-    let k = from * 5;
+    let j = i * 3;
+    let k = i * 5;
     let symbol = value_or(cells[k], screen[j]);
     let foreground = value_or(cells[k + 1], screen[j + 1]);
     let back = value_or(cells[k + 2], background);
@@ -90,128 +57,88 @@ fn lay_cell(screen: &mut [u32], at: usize, cells: &[u32], from: usize, backgroun
     screen[j + 2] = back;
 }
 
-// n cells of the store laid on the screen side by side.
-fn lay_cells(screen: &mut [u32], at: usize, cells: &[u32], from: usize, n: usize, background: u32)
-    requires { ((at + n) * 3 ≤ length screen.old) × (n ≤ length cells.now / 5 - from) }
-    ensures { screen.new ≡ puts (λ i. at + i) (λ i. layered background (picture_at cells.now (from + i))) screen.old n }
+// Cells of the store laid side by side on as many of the screen. By an index, since what a loop over
+// chunks_exact_mut wrote is not known after it.
+fn lay_cells(screen: &mut [u32], cells: &[u32], background: u32)
+    requires { length cells.now / 5 * 3 ≤ length screen.old }
+    ensures { screen.new ≡ puts (λ i. i) (λ i. layered background (picture_at cells.now i)) screen.old (length cells.now / 5) }
 {
-    let mut column: usize = 0;
-    while column < n {
-        lay_cell(&mut *screen, at + column, cells, from + column, background);
-        column += 1;
+    for i in 0..cells.len() / 5 {
+        lay_cell(screen, cells, i, background);
     }
 }
 
-// The background alone laid on n cells side by side.
-fn lay_blank(screen: &mut [u32], at: usize, n: usize, background: u32)
-    requires { (at + n) * 3 ≤ length screen.old }
-    ensures { screen.new ≡ puts (λ i. at + i) (λ i. layered background (record { symbol = 0; foreground = 0; background = 0 })) screen.old n }
+// The background alone laid on cells of the screen.
+fn lay_blank(screen: &mut [u32], background: u32)
+    ensures { screen.new ≡ puts (λ i. i) (λ i. layered background (record { symbol = 0; foreground = 0; background = 0 })) screen.old (length screen.old / 3) }
 {
-    let mut column: usize = 0;
-    while column < n {
-        screen[(at + column) * 3 + 2] = background;
-        column += 1;
+    for i in 0..screen.len() / 3 {
+        screen[i * 3 + 2] = background;
     }
 }
 
-// Whether no word of n cells of the store is set.
-fn is_blank(cells: &[u32], from: usize, n: usize) -> bool
-    requires { n ≤ length cells.now / 5 - from }
-    ensures { result ≡ true → (i : ℕ) → i < n → picture_at cells.now (from + i) ≡ record { symbol = 0; foreground = 0; background = 0 } }
+// Whether no word is set.
+fn is_blank(words: &[u32]) -> bool
+    ensures { result ≡ true → (k : ℕ) → k < length words.now → get_or words.now k 0 ≡ 0 }
 {
     let mut any: u32 = 0;
-    let mut k: usize = 0;
-    while k < n * 5 {
-        any = any | cells[from * 5 + k];
-        k += 1;
+    for word in words {
+        any |= *word;
     }
     any == 0
 }
 
-// Eight cells of the store laid on the screen. 'A layer sets nothing in a cell without its dots', and
-// most have none: there the symbol and the foreground stay, and the background alone is written.
-fn lay_eight(screen: &mut [u32], at: usize, cells: &[u32], from: usize, background: u32)
-    requires { ((at + 8) * 3 ≤ length screen.old) × (8 ≤ length cells.now / 5 - from) }
-    ensures { screen.new ≡ puts (λ i. at + i) (λ i. layered background (picture_at cells.now (from + i))) screen.old 8 }
+// Eight cells of the store laid on eight of the screen. 'A layer sets nothing in a cell without its dots',
+// and most have none: there the symbol and the foreground stay, and the background alone is written.
+fn lay_eight(screen: &mut [u32], cells: &[u32], background: u32)
+    requires { (length screen.old ≡ 24) × (length cells.now ≡ 40) }
+    ensures { screen.new ≡ puts (λ i. i) (λ i. layered background (picture_at cells.now i)) screen.old 8 }
 {
-    if is_blank(cells, from, 8) {
-        lay_blank(&mut *screen, at, 8, background);
-        return;
+    if is_blank(cells) {
+        lay_blank(screen, background);
+    } else {
+        lay_cells(screen, cells, background);
     }
-    lay_cells(&mut *screen, at, cells, from, 8, background);
 }
 
-// n cells of the store laid on the screen side by side, eight at a time while there are as many.
-fn lay_eights(screen: &mut [u32], at: usize, cells: &[u32], from: usize, n: usize, background: u32)
-    requires { ((at + n) * 3 ≤ length screen.old) × (n ≤ length cells.now / 5 - from) }
-    ensures { screen.new ≡ puts (λ i. at + i) (λ i. layered background (picture_at cells.now (from + i))) screen.old n }
+// A row of the canvas laid on the screen: its cells that the store has, eight at a time while there are as
+// many, and blank ones past the store's last.
+fn lay_row(screen: &mut [u32], cells: &[u32], background: u32)
+    requires { length cells.now / 5 ≤ length screen.old / 3 }
+    ensures { screen.new ≡ puts (λ i. i) (λ i. layered background (picture_at cells.now i)) screen.old (length screen.old / 3) }
 {
-    let mut column: usize = 0;
-    while n - column >= 8 {
-        lay_eight(&mut *screen, at + column, cells, from + column, background);
-        column += 8;
+    let eights = cells.len() / 40;
+    for i in 0..eights {
+        lay_eight(
+            &mut screen[i * 24..i * 24 + 24],
+            &cells[i * 40..i * 40 + 40],
+            background,
+        );
     }
     lay_cells(
-        &mut *screen,
-        at + column,
-        cells,
-        from + column,
-        n - column,
+        &mut screen[eights * 24..],
+        &cells[eights * 40..],
         background,
     );
-}
-
-// How many of a row's cells the store has.
-fn held_cells(cells: &[u32], from: usize, columns: usize) -> usize
-    ensures { result ≡ min columns (length cells.now / 5 - from) }
-{
     let held = cells.len() / 5;
-    if held <= from {
-        return 0;
-    }
-    if held - from < columns {
-        held - from
-    } else {
-        columns
-    }
+    lay_blank(&mut screen[held * 3..], background);
 }
 
-// A row of the canvas laid on the screen. Past the store's last cell all are blank.
-fn lay_row(
-    screen: &mut [u32],
-    at: usize,
-    cells: &[u32],
-    from: usize,
-    columns: usize,
-    background: u32,
-)
-    requires { (at + columns) * 3 ≤ length screen.old }
-    ensures { screen.new ≡ puts (λ i. at + i) (λ i. layered background (picture_at cells.now (from + i))) screen.old columns }
-{
-    let held = held_cells(cells, from, columns);
-    lay_eights(&mut *screen, at, cells, from, held, background);
-    lay_blank(&mut *screen, at + held, columns - held, background);
-}
-
-// The canvas' rows laid on a screen that the area fits.
+// The canvas' rows laid on a screen that the area fits, each from those of its cells that the store has.
 fn lay_rows(screen: &mut [u32], a: Area, cells: &[u32], c: Canvas)
     requires { (passes_edge c.columns c.rows a ≡ false) × (bad_screen a screen.old ≡ false) }
     ensures { screen.new ≡ laid_screen c cells.now a screen.old }
 {
-    let columns = wide(c.columns as u32);
-    let rows = c.rows as u32;
-    let mut row: u32 = 0;
-    while row < rows {
-        let at = spot_index(a, 0, row);
+    let columns = usize::from(c.columns);
+    for row in 0..u32::from(c.rows) {
+        let at = spot_index(a, 0, row) * 3;
+        let from = (row as usize * columns * 5).min(cells.len());
+        let end = (from + columns * 5).min(cells.len());
         lay_row(
-            &mut *screen,
-            at,
-            cells,
-            wide(row) * columns,
-            columns,
+            &mut screen[at..at + columns * 3],
+            &cells[from..end],
             c.background,
         );
-        row += 1;
     }
 }
 
@@ -224,46 +151,44 @@ pub fn lay(screen: &mut [u32], a: Area, cells: &[u32], c: Canvas)
     if passes_edge(c.columns, c.rows, a) {
         return;
     }
-    if is_bad_screen(a, &*screen) {
+    if is_bad_screen(a, screen) {
         return;
     }
-    lay_rows(&mut *screen, a, cells, c);
+    lay_rows(screen, a, cells, c);
 }
 
 // How many bytes of a label at this place stand in the area.
 fn fitting_bytes(columns: u16, rows: u16, column_word: u32, row: u32, length: u32) -> u32
     ensures { result ≡ fitting_at columns rows (place_of column_word row) length }
 {
-    if column_word == 0 {
+    if (column_word == 0) | (row >= u32::from(rows)) {
         return 0;
     }
-    if row >= rows as u32 {
-        return 0;
-    }
-    let column = column_word - 1;
-    if column >= columns as u32 {
-        return 0;
-    }
-    let room = (columns as u32) - column;
-    if length < room { length } else { room }
+    let room = u32::from(columns).saturating_sub(column_word - 1);
+    length.min(room)
 }
 
 // One byte of a label written.
 fn write_byte(screen: &mut [u32], j: usize, byte: u32, word: u32)
-    ensures { j * 3 + 3 ≤ length screen.old
-        → screen.new ≡ put_on screen.old j (record { symbol = byte; foreground = or_else word (cell_on screen.old j).foreground; background = (cell_on screen.old j).background }) }
+    requires { j * 3 + 3 ≤ length screen.old }
+    ensures { screen.new
+        ≡ put_on screen.old j (record { symbol = byte; foreground = or_else word (cell_on screen.old j).foreground; background = (cell_on screen.old j).background }) }
 {
-    let old = cell_on(&*screen, j);
-    let foreground = value_or(word, old.foreground);
-    put_on(
-        &mut *screen,
-        j,
-        ScreenCell {
-            symbol: byte,
-            foreground,
-            background: old.background,
-        },
-    );
+    let k = j * 3;
+    let foreground = value_or(word, screen[k + 1]);
+    screen[k] = byte;
+    screen[k + 1] = foreground;
+}
+
+// The bytes of a label written side by side, from the cell `at` on.
+fn write_bytes(screen: &mut [u32], at: usize, bytes: &[u32], word: u32)
+    requires { (at + length bytes.now) * 3 ≤ length screen.old }
+    ensures { screen.new
+        ≡ puts (λ i. at + i) (λ i old. record { symbol = get_or bytes.now i 0; foreground = or_else word old.foreground; background = old.background }) screen.old (length bytes.now) }
+{
+    for (i, byte) in bytes.iter().enumerate() {
+        write_byte(screen, at + i, *byte, word);
+    }
 }
 
 // The label k written on the screen; the number of its cells.
@@ -271,24 +196,17 @@ pub fn write_label(screen: &mut [u32], a: Area, c: Canvas, labels: &[u32], k: u3
     ensures { k * 44 + 44 ≤ length labels.now → passes_edge c.columns c.rows a ≡ false → bad_screen a screen.old ≡ false
         → (result ≡ fitting c (label_at labels.now k)) × (screen.new ≡ written_label c a screen.old (label_at labels.now k)) }
 {
-    let at = wide(k) * 44;
+    let at = (k as usize) * 44;
     if at + 44 > labels.len() {
         return 0;
     }
-    let column_word = labels[at];
-    let row = labels[at + 1];
-    let word = labels[at + 2];
-    let length = if labels[at + 3] < 40 {
-        labels[at + 3]
-    } else {
-        40
-    };
-    let n = fitting_bytes(c.columns, c.rows, column_word, row, length);
-    let mut i: u32 = 0;
-    while i < n {
-        let j = spot_index(a, column_word - 1 + i, row);
-        write_byte(&mut *screen, j, labels[at + 4 + wide(i)], word);
-        i += 1;
+    let label = &labels[at..at + 44];
+    let length = label[3].min(40);
+    let n = fitting_bytes(c.columns, c.rows, label[0], label[1], length);
+    let bytes = &label[4..4 + n as usize];
+    let start = spot_index(a, label[0].saturating_sub(1), label[1]);
+    if start + bytes.len() <= screen.len() / 3 {
+        write_bytes(screen, start, bytes, label[2]);
     }
     n
 }
@@ -298,13 +216,10 @@ pub fn write_labels(screen: &mut [u32], a: Area, c: Canvas, labels: &[u32]) -> u
     ensures { c.labels ≤ max_labels → max_labels * 44 ≤ length labels.now → passes_edge c.columns c.rows a ≡ false → bad_screen a screen.old ≡ false
         → (result ≡ label_cells c (held_labels labels.now c.labels)) × (screen.new ≡ foldl (written_label c a) screen.old (held_labels labels.now c.labels)) }
 {
-    let held = if c.labels < 64 { c.labels } else { 64 };
     let mut count: u32 = 0;
-    let mut k: u32 = 0;
-    while k < held {
-        let n = write_label(&mut *screen, a, c, labels, k);
-        count = std::num::wrapping_add_u32(count, n);
-        k += 1;
+    for k in 0..c.labels.min(64) {
+        let n = write_label(screen, a, c, labels, k);
+        count = count.wrapping_add(n);
     }
     count
 }

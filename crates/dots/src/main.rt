@@ -3,27 +3,23 @@
 // answer is a line: `dot COLUMN ROW`, `none`, or `refused N`.
 #![tactic(auto)]
 
+use bundle::questions::{answer_questions, float_at};
 use canvas::calls::get_point;
-use form::fields::{from_bits, number8, number16, number64};
-use ledger::state::{Canvas, Pointed};
+use form::fields::FieldValue;
+use ledger::state::Canvas;
+use refusals::refusal::Refusal;
 use std::io;
-use std::io::Read;
 use walk::clip::Bounds;
-
-fn float_at(question: &[u8], at: usize) -> f64 {
-    let bits = number64(question, at);
-    from_bits(bits)
-}
 
 // An open canvas of the question's size, bounds and marker; with marker 8 its character is a blank.
 fn canvas_of(question: &[u8]) -> Canvas {
-    let columns = number16(question, 0);
-    let rows = number16(question, 2);
+    let columns = u16::read(question, 0);
+    let rows = u16::read(question, 2);
     let left = float_at(question, 4);
     let right = float_at(question, 12);
     let bottom = float_at(question, 20);
     let top = float_at(question, 28);
-    let marker = number8(question, 36);
+    let marker = u8::read(question, 36);
     Canvas {
         columns,
         rows,
@@ -44,36 +40,26 @@ fn canvas_of(question: &[u8]) -> Canvas {
     }
 }
 
-fn print_answer(rt: &impl Print, found: Pointed) -> bool {
-    let printed = match found {
-        Pointed::Refused(number) => println!(rt; "refused {number}"),
-        Pointed::Dot(column, row) => println!(rt; "dot {column} {row}"),
-        Pointed::None => println!(rt; "none"),
-    };
-    printed.is_ok()
+fn print_answer(rt: &impl Print, found: Result<Option<(u16, u16)>, Refusal>) -> io::Result<()> {
+    match found {
+        Ok(Some((column, row))) => println!(rt; "dot {column} {row}"),
+        Ok(None) => println!(rt; "none"),
+        Err(refusal) => println!(rt; "refused {}", u8::from(refusal)),
+    }
 }
 
-// One question. Answers whether another may follow.
-fn answer_question(rt: &(impl io::Input + Print)) -> bool {
-    let mut question = [0u8; 53];
-    if rt.reader().read_exact(&mut question).is_err() {
-        return false;
-    }
-    let canvas = canvas_of(&question);
-    let x = float_at(&question, 37);
-    let y = float_at(&question, 45);
+fn answer_question(rt: &impl Print, question: &[u8]) -> io::Result<()> {
+    let canvas = canvas_of(question);
+    let x = float_at(question, 37);
+    let y = float_at(question, 45);
     let found = get_point(canvas, x, y);
     print_answer(rt, found)
 }
 
-// The count ends the loop whatever is read.
 fn main(rt: HostRuntime) {
-    let mut left: u32 = 4294967295;
-    while left > 0 {
-        if answer_question(&rt) {
-            left -= 1;
-        } else {
-            return;
-        }
-    }
+    let _ = answer_questions(
+        &rt,
+        &mut [0u8; 53],
+        |question| answer_question(&rt, question),
+    );
 }

@@ -3,9 +3,8 @@ use Prim.Native.Nat.{ℕ, min}
 use mathlib.Core.Path.{◌≡◌, ap, ◌∙◌}
 use mathlib.Core.List.{List, ◌++◌}
 use lib.ListN.{length, take, drop, take-append-drop}
+use Rattle.picture.specs.Drawn.{Drawn, Refused}
 use Rattle.picture.specs.Run.{Picture, picture_of}
-use Rattle.picture.specs.declared.run.Drawn.{Drawn}
-use Rattle.picture.specs.declared.run.Drawn.TheVariants.{Refused}
 use Rattle.picture.proofs.Faithful.{faithful}
 use Rattle.report.specs.Screen.{picture_size}
 use Rattle.report.proofs.Lent.{take-least, drop-least}

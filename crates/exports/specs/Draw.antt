@@ -1,8 +1,7 @@
 -- A picture file drawn onto a lent screen, with its outcome as numbers: document 01, 'Picture file', and 'Render'.
 use Rattle.std.specs.Prelude.{ℕ, List, ◌++◌, take, drop}
+use Rattle.picture.specs.Drawn.{Drawn, Shown, Refused}
 use Rattle.picture.specs.Run.{Picture, picture_of}
-use Rattle.picture.specs.declared.run.Drawn.{Drawn}
-use Rattle.picture.specs.declared.run.Drawn.TheVariants.{Shown, Refused}
 use Rattle.report.specs.Screen.{picture_size}
 
 -- 'renders on a screen of that size': as many words of the lent screen as the picture's size has; a screen that has fewer meets 13

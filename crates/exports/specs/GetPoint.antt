@@ -5,8 +5,7 @@ use Rattle.view.specs.Limits.{reset}
 use Rattle.ledger.specs.Model.{opened_canvas}
 use Rattle.ledger.specs.PointCall.{pointed_on}
 use Rattle.ledger.specs.declared.state.Canvas.{Canvas}
-use Rattle.ledger.specs.declared.state.Pointed.{Pointed}
-use Rattle.ledger.specs.declared.state.Pointed.TheVariants.{Refused, Dot, None}
+use Rattle.ledger.specs.Pointed.{Pointed, Refused, Dot, None}
 
 -- a canvas as it is opened; the dot does not turn on character or background: 'absent: 0020, Reset'
 abbrev pub canvas_with : ℕ → ℕ → Bounds → ℕ → Canvas

@@ -1,5 +1,5 @@
 // A picture file drawn onto a lent screen, and a screen as bytes.
-ghost use Rattle.std.specs.Prelude.{◌≡◌, ◌≤◌, min, length};
+ghost use Rattle.std.specs.Prelude.{◌≡◌, length};
 ghost use Rattle.text.specs.Bytes.{laid};
 ghost use Rattle.text.specs.Screen.{cells_of};
 ghost use Rattle.text.specs.Listing.{listing, refusal_line};
@@ -7,25 +7,19 @@ ghost use Rattle.text.specs.Terminal.{terminal};
 ghost use Rattle.report.specs.Screen.{blank_screen, columns_of, rows_of};
 ghost use Rattle.exports.specs.Draw.{picture_onto, screen_after, draw_status, painted_after, label_cells_after, place_after, IsShown};
 
-use form::fields::number16;
-use picture::run::{Drawn, draw_picture};
+use form::fields::FieldValue;
+use picture::run::draw_picture;
 use report::screen::{blank_screen, picture_size};
 use text::listing::{write_listing, write_refusal};
 use text::terminal::write_terminal;
-
-fn least(a: usize, b: usize) -> usize
-    ensures { (result ≡ min a b) × (result ≤ b) }
-{
-    if a < b { a } else { b }
-}
 
 // The picture's columns and rows, as the file has them; 0 where it ends before.
 #[unsafe(no_mangle)]
 pub extern "C" fn mossbuckle_size(file: &[u8], columns: &mut u16, rows: &mut u16)
     ensures { (columns.new ≡ columns_of file.now) × (rows.new ≡ rows_of file.now) }
 {
-    *columns = number16(file, 0);
-    *rows = number16(file, 2);
+    *columns = u16::read(file, 0);
+    *rows = u16::read(file, 2);
 }
 
 // Every whole cell becomes blank; the words left over stay as they are.
@@ -59,7 +53,7 @@ pub extern "C" fn mossbuckle_draw(
         × (screen.new ≡ screen_after file.now widest highest cells.old labels.old screen.old)) }
     ensures shown { (result ≡ 0 → IsShown (picture_onto file.now widest highest cells.old labels.old screen.old).drawn) × ((result ≡ 0 → ⊥) → screen.new ≡ screen.old) }
 {
-    let n = least(picture_size(file, widest, highest), screen.len());
+    let n = picture_size(file, widest, highest).min(screen.len());
     let drawn = draw_picture(
         file,
         widest,
@@ -69,14 +63,14 @@ pub extern "C" fn mossbuckle_draw(
         &mut screen[..n],
     );
     match drawn {
-        Drawn::Shown(dots, taken) => {
-            *painted = dots;
-            *label_cells = taken;
+        Ok(rendered) => {
+            *painted = rendered.painted;
+            *label_cells = rendered.label_cells;
             0
         }
-        Drawn::Refused(number, at) => {
-            *place = at;
-            number
+        Err(fault) => {
+            *place = fault.place;
+            u8::from(fault.refusal)
         }
     }
 }

@@ -3,27 +3,30 @@
 // number.
 ghost use Rattle.std.specs.Prelude.{◌≡◌};
 ghost use Rattle.ledger.specs.PointCall.{pointed_on};
+ghost use Rattle.canvas.specs.Results.{found};
 ghost use Rattle.words.specs.Words.{canvas_of};
 ghost use Rattle.exports.specs.GetPoint.{point_at, point_status, column_after, row_after, IsDot, IsNone};
 
 use canvas::calls::get_point;
-use ledger::state::{Canvas, Pointed};
+use ledger::state::Canvas;
+use refusals::refusal::Refusal;
 use walk::clip::Bounds;
 use words::load;
 
 // The status, and the dot put into the lent numbers.
-fn put_dot(pointed: Pointed, column: &mut u32, row: &mut u32) -> u8
-    ensures { (result ≡ point_status pointed)
-        × ((column.new ≡ column_after pointed column.old) × (row.new ≡ row_after pointed row.old)) }
+fn put_dot(dot: Result<Option<(u16, u16)>, Refusal>, column: &mut u32, row: &mut u32) -> u8
+    ensures status { result ≡ point_status (found dot) }
+    ensures column { column.new ≡ column_after (found dot) column.old }
+    ensures row { row.new ≡ row_after (found dot) row.old }
 {
-    match pointed {
-        Pointed::Refused(number) => number,
-        Pointed::Dot(dot_column, dot_row) => {
-            *column = dot_column as u32;
-            *row = dot_row as u32;
+    match dot {
+        Ok(Some((across, down))) => {
+            *column = u32::from(across);
+            *row = u32::from(down);
             0
         }
-        Pointed::None => 255,
+        Ok(None) => 255,
+        Err(refusal) => u8::from(refusal),
     }
 }
 
@@ -42,8 +45,7 @@ pub extern "C" fn mossbuckle_point(
     ensures dot { (result ≡ 0 → IsDot (pointed_on (canvas_of canvas.now) x y)) × (result ≡ 255 → IsNone (pointed_on (canvas_of canvas.now) x y)) }
 {
     let c = load(canvas);
-    let pointed = get_point(c, x, y);
-    put_dot(pointed, &mut *column, &mut *row)
+    put_dot(get_point(c, x, y), &mut *column, &mut *row)
 }
 
 // By the numbers of a canvas.
@@ -84,6 +86,5 @@ pub extern "C" fn mossbuckle_get_point(
         draws: 0,
         painted: 0,
     };
-    let pointed = get_point(canvas, x, y);
-    put_dot(pointed, &mut *column, &mut *row)
+    put_dot(get_point(canvas, x, y), &mut *column, &mut *row)
 }

@@ -7,14 +7,15 @@ use crate::methods::{PI, abs, copysign};
 
 pub const FRAC_1_PI: f64 = 0.3183098861837907;
 
-// val * a + b, with two roundings.
+// val * a + b, with two roundings, where std's rounds once.
 pub fn mul_add(val: f64, a: f64, b: f64) -> f64
     ensures { result ≡ mul_add_of val a b }
 {
     val * a + b
 }
 
-// The nearest whole number, a half away from 0; 0.49999999999999994 gives 1.
+// The nearest whole number, a half away from 0; 0.49999999999999994 gives 1, and 0 by std's.
+#[tactic(auto, unfolding(crate::specs::Polyfills::round_of))]
 pub fn round(val: f64) -> f64
     ensures { result ≡ round_of val }
 {
@@ -22,6 +23,7 @@ pub fn round(val: f64) -> f64
 }
 
 // The largest whole number that is at most val.
+#[tactic(auto, unfolding(crate::specs::Polyfills::floor_of))]
 pub fn floor(val: f64) -> f64
     ensures { result ≡ floor_of val }
 {
@@ -33,6 +35,7 @@ pub fn floor(val: f64) -> f64
 }
 
 // The sine of val radians, to some 0.002.
+#[tactic(auto, unfolding(crate::specs::Polyfills::sin_of))]
 pub fn sin(val: f64) -> f64
     ensures { result ≡ sin_of val }
 {
@@ -40,6 +43,7 @@ pub fn sin(val: f64) -> f64
 }
 
 // The cosine of val radians, to some 0.002.
+#[tactic(auto, unfolding(crate::specs::Polyfills::cos_of))]
 pub fn cos(val: f64) -> f64
     ensures { result ≡ cos_of val }
 {

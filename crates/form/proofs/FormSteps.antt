@@ -1,10 +1,16 @@
 -- What a record's form is refused with, from its first test to its last.
-use Rattle.std.proofs.Common.{◌≡◌, ℕ, zero, suc, ◌+◌, ◌^◌, ◌<◌, ◌≤◌, true, false, ltb, leb, List, length, sym, arith, ltb-false, le-ltb, lt-ltb, le-leb}
-use borrow.Author.Tests.{lt-leb}
+use Rattle.std.proofs.Common.{◌≡◌, ℕ, ◌+◌, ◌-◌, ◌^◌, ◌<◌, ◌≤◌, Bool, true, false, cond, ltb, leb, List, length, take, drop, refl, sym, ◌∙◌, ltb-false, le-ltb, lt-ltb, le-leb}
+use borrow.Author.Tests.{lt-leb, leb-true, leb-false}
+use Rattle.refusals.specs.declared.refusal.Refusal.{Refusal}
+use Rattle.refusals.specs.Refusals.{number_of}
+use Rattle.form.proofs.Refused.{some}
 use Rattle.floats.proofs.Cases.{or-false-left, or-false-right}
 use Rattle.grids.proofs.Cases.{cond-none}
-use Rattle.form.specs.declared.sizes.Form.{Form}
-use Rattle.form.specs.Forms.{max_file, is_unknown, kind_at, map_at, record_widths, record_end, record_form, form_by}
+use Rattle.form.specs.declared.kind.Kind.{Kind}
+use Rattle.form.specs.declared.kind.Kind.TheVariants.{Line, FilledLine, Rectangle, Circle, Points, Layer, Marker, Label, Dot}
+use Rattle.form.specs.Forms.{max_file, is_unknown, kind_at, map_at, widths_of, record_widths, record_end, record_form}
+use Rattle.form.specs.Kinds.{kind_number}
+use borrow.Author.Rules.{part_to_end}
 
 -- a record of a known kind whose map byte is there
 pub record Headed (file : List ℕ) (at : ℕ) : Type 0 where
@@ -36,20 +42,6 @@ pub well-formed : (file : List ℕ) (at : ℕ) → Headed file at → map_at fil
 unfolding record_form
 well-formed file at g b h = rw (le-ltb max_file (length file) g.within, le-ltb (length file) (at + 2) g.header, g.known, lt-leb _ _ b, le-ltb _ _ h)
 
--- ---- the form as the code has it
--- refused with a number above 0
-pub refused-form : (n m end : ℕ) (r : Form) → suc n ≡ m → r ≡ record { number = suc n; end = 0 } → r ≡ form_by m end
-refused-form n m end r e h = rw (← e) h
-
--- its number is the definition's, and with 0 its end is
-pub form-number : (n end : ℕ) (r : Form) → r ≡ form_by n end → r.number ≡ n
-form-number zero end r e = rw e
-form-number (suc n) end r e = rw e
-
-pub form-end : (n end : ℕ) (r : Form) → r ≡ form_by n end → 0 ≡ n → r.end ≡ end
-form-end zero end r e z = rw e
-form-end (suc n) end r e z = absurd (omega (arith, z))
-
 -- a record that meets none of them
 pub record Formed (file : List ℕ) (at : ℕ) : Type 0 where
   pub within : length file ≤ max_file
@@ -73,3 +65,37 @@ formed file at e =
       high = ltb-false _ _ (or-false-right (ltb (kind_at file at) 1) _ k.0);
       fit = ltb-false _ _ f.0;
     }
+
+-- a kind's number is known
+pub known_kind : (kind : Kind) → is_unknown (kind_number kind) ≡ false
+known_kind Line = refl
+known_kind FilledLine = refl
+known_kind Rectangle = refl
+known_kind Circle = refl
+known_kind Points = refl
+known_kind Layer = refl
+known_kind Marker = refl
+known_kind Label = refl
+known_kind Dot = refl
+
+-- the widths, read by the kind in the rest of the file
+pub widths-are : (file : List ℕ) (at n : ℕ) → n ≡ kind_at file at → widths_of n (map_at file at) (take (length file - (at + 2)) (drop (at + 2) file)) ≡ record_widths file at
+widths-are file at n e = rw (part_to_end file (at + 2), e)
+
+-- what the map is refused with, as a number
+pub extra-refused : (file : List ℕ) (at : ℕ) (refusal : Refusal) → Headed file at → number_of refusal ≡ cond (leb (2 ^ length (record_widths file at)) (map_at file at)) 16 0
+    → number_of refusal ≡ record_form file at
+extra-refused file at refusal g e = go (leb (2 ^ length (record_widths file at)) (map_at file at)) refl
+  where
+    go : (b : Bool) → leb (2 ^ length (record_widths file at)) (map_at file at) ≡ b → number_of refusal ≡ record_form file at
+    go true t = e ∙ rw t (extra-bit file at g (leb-true _ _ t))
+    go false t = absurd (some refusal (e ∙ rw t))
+
+pub map-bound : (file : List ℕ) (at : ℕ) → ◌≡◌ {A = ℕ} 0 (cond (leb (2 ^ length (record_widths file at)) (map_at file at)) 16 0) → map_at file at < 2 ^ length (record_widths file at)
+map-bound file at e = leb-false _ _ (cond-none (leb (2 ^ length (record_widths file at)) (map_at file at)) 15 0 (sym e)).0
+
+pub headed : (file : List ℕ) (at : ℕ) (kind : Kind) → kind_number kind ≡ kind_at file at → length file ≤ max_file → at + 2 ≤ length file → Headed file at
+headed file at kind e w h = record { within = w; header = h; known = rw (← e) (known_kind kind) }
+
+pub known-formed : (file : List ℕ) (at : ℕ) → Formed file at → is_unknown (kind_at file at) ≡ false
+known-formed file at f = rw (le-ltb (kind_at file at) 1 f.low, le-ltb 9 (kind_at file at) f.high)

@@ -1,8 +1,7 @@
 -- The form of a picture file's opening and records, by their bytes alone: document 01, 'Picture file (ours) and its program'.
-use Rattle.std.specs.Prelude.{ℕ, zero, suc, ◌+◌, ◌*◌, ◌^◌, Bool, cond, ◌||◌, List, [], ◌∷◌, length, drop, ◌==◌, nat_le, nat_lt, slice_index}
+use Rattle.std.specs.Prelude.{ℕ, ◌+◌, ◌*◌, ◌^◌, Bool, cond, ◌||◌, List, [], ◌∷◌, length, drop, ◌==◌, nat_le, nat_lt, slice_index}
 use Rattle.grids.specs.Lists.{first}
 use Rattle.form.specs.Fields.{number_at, place_of, size_by, number_in}
-use Rattle.form.specs.declared.sizes.Form.{Form}
 
 -- '17 over 65,536 bytes'
 abbrev pub max_file : ℕ
@@ -118,8 +117,3 @@ record_form file at =
     ∷ (nat_lt (length file) (record_end file at), 14)
     ∷ []
     )
-
--- the same as the code has it, with the record's end where it is of good form
-abbrev pub form_by : ℕ → ℕ → Form
-form_by zero end = record { number = 0; end = end }
-form_by (suc number) end = record { number = suc number; end = 0 }

@@ -1,108 +1,91 @@
 // The fields of a picture file, little-endian, read from a part of the file. A field whose bit does
 // not stand in the map takes no byte and has its default; one that the part cuts short counts 0.
-ghost use Rattle.std.specs.Prelude.{◌≡◌, ◌+◌, ◌^◌, ◌<◌, ◌≤◌, not, length};
+ghost use Rattle.std.specs.Prelude.{◌≡◌, ℕ, ◌+◌, ◌*◌, ◌%◌, ◌^◌, ◌<◌, ◌≤◌, cond, not, length, Some, None, unwrap_or};
 ghost use Rattle.floats.specs.Arithmetic.{bits};
 ghost use Rattle.floats.specs.Domain.{in_domain};
-ghost use Rattle.form.specs.Fields.{little, number_at, stands, width_in, number_in, float_in};
+ghost use Rattle.form.specs.Fields.{little, number_at, stands, width_in, float_in};
 
-// A byte's field, and the place after it.
-#[derive(Clone, Copy)]
-pub struct Byte {
-    pub value: u8,
-    pub end: usize,
-}
-
-// A number's field, and the place after it.
-#[derive(Clone, Copy)]
-pub struct Number {
-    pub value: u32,
-    pub end: usize,
-}
-
-// A float's field, and the place after it.
-#[derive(Clone, Copy)]
-pub struct Real {
-    pub value: f64,
-    pub end: usize,
-}
-
-fn wide(byte: u8) -> u64
-    ensures { (result ≡ byte) × (result < 256) }
+// The bytes at a place, or zeros where the part ends inside them.
+fn bytes_at<const N: usize>(part: &[u8], at: usize) -> [u8; N]
+    ensures { little result 0 N ≡ number_at part.now at N }
 {
-    byte as u64
-}
-
-fn little16(part: &[u8], at: usize) -> u64
-    requires { at + 2 ≤ length part.now }
-    ensures { (result ≡ little part.now at 2) × (result < 65536) }
-{
-    let low = wide(part[at]);
-    let high = wide(part[at + 1]);
-    low + 256 * high
-}
-
-fn little32(part: &[u8], at: usize) -> u64
-    requires { at + 4 ≤ length part.now }
-    ensures { (result ≡ little part.now at 4) × (result < 4294967296) }
-{
-    let low = little16(part, at);
-    let high = little16(part, at + 2);
-    low + 65536 * high
-}
-
-fn little64(part: &[u8], at: usize) -> u64
-    requires { at + 8 ≤ length part.now }
-    ensures { result ≡ little part.now at 8 }
-{
-    let low = little32(part, at);
-    let high = little32(part, at + 4);
-    low + 4294967296 * high
-}
-
-// One, two, four and eight bytes, or 0 where the part ends inside them.
-pub fn number8(part: &[u8], at: usize) -> u8
-    ensures { result ≡ number_at part.now at 1 }
-{
-    if at < part.len() {
-        return part[at];
+    let mut bytes = [0; N];
+    if at <= part.len() && N <= part.len() - at {
+        bytes.copy_from_slice(&part[at..at + N]);
     }
-    0
+    bytes
 }
 
-pub fn number16(part: &[u8], at: usize) -> u16
-    ensures { result ≡ number_at part.now at 2 }
-{
-    if part.len() < 2 {
-        return 0;
-    }
-    if part.len() - 2 < at {
-        return 0;
-    }
-    little16(part, at) as u16
+// What a field holds: the number in its bytes, or what that number says.
+pub trait FieldValue: Copy {
+    ghost WIDTH: { ℕ };
+
+    ghost valued: { ℕ → Self };
+
+    const WIDTH: usize;
+
+    fn read(part: &[u8], at: usize) -> Self
+        ensures { result ≡ valued (number_at part.now at WIDTH) };
 }
 
-pub fn number32(part: &[u8], at: usize) -> u32
-    ensures { result ≡ number_at part.now at 4 }
-{
-    if part.len() < 4 {
-        return 0;
+impl FieldValue for u8 {
+    ghost WIDTH = { 1 };
+
+    ghost valued = { λ n. n };
+
+    const WIDTH: usize = 1;
+
+    fn read(part: &[u8], at: usize) -> u8 {
+        u8::from_le_bytes(bytes_at(part, at))
     }
-    if part.len() - 4 < at {
-        return 0;
-    }
-    little32(part, at) as u32
 }
 
-pub fn number64(part: &[u8], at: usize) -> u64
-    ensures { result ≡ number_at part.now at 8 }
-{
-    if part.len() < 8 {
-        return 0;
+impl FieldValue for u16 {
+    ghost WIDTH = { 2 };
+
+    ghost valued = { λ n. n };
+
+    const WIDTH: usize = 2;
+
+    fn read(part: &[u8], at: usize) -> u16 {
+        u16::from_le_bytes(bytes_at(part, at))
     }
-    if part.len() - 8 < at {
-        return 0;
+}
+
+impl FieldValue for u32 {
+    ghost WIDTH = { 4 };
+
+    ghost valued = { λ n. n };
+
+    const WIDTH: usize = 4;
+
+    fn read(part: &[u8], at: usize) -> u32 {
+        u32::from_le_bytes(bytes_at(part, at))
     }
-    little64(part, at)
+}
+
+impl FieldValue for u64 {
+    ghost WIDTH = { 8 };
+
+    ghost valued = { λ n. n };
+
+    const WIDTH: usize = 8;
+
+    fn read(part: &[u8], at: usize) -> u64 {
+        u64::from_le_bytes(bytes_at(part, at))
+    }
+}
+
+impl FieldValue for f64 {
+    ghost WIDTH = { 8 };
+
+    ghost valued = { bits };
+
+    const WIDTH: usize = 8;
+
+    fn read(part: &[u8], at: usize) -> f64 {
+        from_bits(u64::read(part, at))
+    }
 }
 
 // The float with these bits; each NaN pattern is the NaN.
@@ -110,7 +93,7 @@ pub fn from_bits(n: u64) -> f64
     ensures { result ≡ bits n }
 {
     if n % 9223372036854775808 > 9218868437227405312 {
-        return 0.0 / 0.0;
+        return f64::NAN;
     }
     f64::from_bits(n)
 }
@@ -124,56 +107,63 @@ pub fn is_far(n: u64) -> bool
 }
 
 // Whether the bit of this weight stands in a map.
+#[tactic(auto, unfolding(crate::specs::Fields::stands))]
 pub fn has(map: u8, weight: u8) -> bool
     ensures { 1 ≤ weight → result ≡ stands map weight }
 {
-    if weight == 0 {
-        return false;
-    }
-    map / weight % 2 == 1
+    weight != 0 && map / weight % 2 == 1
 }
 
-// The fields at a place: their value, and the place after them.
-pub fn byte_field(part: &[u8], at: usize, map: u8, weight: u8, absent: u8) -> Byte
-    ensures { 1 ≤ weight → at < 2 ^ 32 → (result ≡ record { value = number_in part.now at map weight 1 absent; end = at + width_in map weight 1 }) × (result.end ≤ at + 1) }
-{
-    if has(map, weight) {
-        let value = number8(part, at);
-        let end = std::num::wrapping_add_usize(at, 1);
-        return Byte { value, end };
-    }
-    Byte {
-        value: absent,
-        end: at,
-    }
+// The fields of an opening or a record, read one after the other: the next has the bit of this weight,
+// and stands at this place.
+#[derive(Clone, Copy)]
+pub struct Fields<'a> {
+    pub part: &'a [u8],
+    pub map: u8,
+    pub at: usize,
+    pub weight: u8,
 }
 
-pub fn number_field(part: &[u8], at: usize, map: u8, weight: u8, absent: u32) -> Number
-    ensures { 1 ≤ weight → at < 2 ^ 32 → (result ≡ record { value = number_in part.now at map weight 4 absent; end = at + width_in map weight 4 }) × (result.end ≤ at + 4) }
-{
-    if has(map, weight) {
-        let value = number32(part, at);
-        let end = std::num::wrapping_add_usize(at, 4);
-        return Number { value, end };
+impl<'a> Fields<'a> {
+    pub fn new(map: u8, part: &'a [u8]) -> Fields<'a>
+        ensures { result ≡ record { part = part.entry; map = map; at = 0; weight = 1 } }
+    {
+        Fields {
+            part,
+            map,
+            at: 0,
+            weight: 1,
+        }
     }
-    Number {
-        value: absent,
-        end: at,
-    }
-}
 
-// 'absent: 0.0'
-pub fn real_field(part: &[u8], at: usize, map: u8, weight: u8) -> Real
-    ensures { 1 ≤ weight → at < 2 ^ 32 → (result ≡ record { value = float_in part.now at map weight; end = at + width_in map weight 8 }) × (result.end ≤ at + 8) }
-{
-    if has(map, weight) {
-        let n = number64(part, at);
-        let value = from_bits(n);
-        let end = std::num::wrapping_add_usize(at, 8);
-        return Real { value, end };
+    // The next field, if it stands.
+    pub fn optional<T: FieldValue>(&mut self) -> Option<T>
+        ensures value { 1 ≤ self.old.weight → result ≡ cond (stands self.old.map self.old.weight) (Some (T.valued (number_at self.old.part.now self.old.at T.WIDTH))) None }
+        ensures after { 1 ≤ self.old.weight → self.old.at + T.WIDTH < 2 ^ 64 → self.new ≡ record { part = self.old.part; map = self.old.map; at = self.old.at + width_in self.old.map self.old.weight T.WIDTH; weight = self.old.weight * 2 % 256 } }
+    {
+        let stands = has(self.map, self.weight);
+        self.weight = self.weight.wrapping_mul(2);
+        if !stands {
+            return None;
+        }
+        let value = T::read(self.part, self.at);
+        self.at = self.at.wrapping_add(T::WIDTH);
+        Some(value)
     }
-    Real {
-        value: 0.0,
-        end: at,
+
+    // The same with a default.
+    pub fn next<T: FieldValue>(&mut self, absent: T) -> T
+        ensures value { 1 ≤ self.old.weight → result ≡ cond (stands self.old.map self.old.weight) (T.valued (number_at self.old.part.now self.old.at T.WIDTH)) absent }
+        ensures after { 1 ≤ self.old.weight → self.old.at + T.WIDTH < 2 ^ 64 → self.new ≡ record { part = self.old.part; map = self.old.map; at = self.old.at + width_in self.old.map self.old.weight T.WIDTH; weight = self.old.weight * 2 % 256 } }
+    {
+        self.optional().unwrap_or(absent)
+    }
+
+    // A float has the default 0.0.
+    pub fn real(&mut self) -> f64
+        ensures value { 1 ≤ self.old.weight → result ≡ float_in self.old.part.now self.old.at self.old.map self.old.weight }
+        ensures after { 1 ≤ self.old.weight → self.old.at + 8 < 2 ^ 64 → self.new ≡ record { part = self.old.part; map = self.old.map; at = self.old.at + width_in self.old.map self.old.weight 8; weight = self.old.weight * 2 % 256 } }
+    {
+        self.next(0.0)
     }
 }

@@ -1,63 +1,57 @@
 // How many bytes the fields of a record take, and what its form is refused with.
-ghost use Rattle.std.specs.Prelude.{◌≡◌, ℕ, ◌+◌, ◌*◌, ◌^◌, ◌<◌, ◌≤◌, List, length};
-ghost use Rattle.form.specs.Fields.{number_at, width_in, place_of, size_by};
-ghost use Rattle.form.specs.Forms.{line_widths, filled_line_widths, circle_widths, points_widths, pair_count, marker_widths, label_widths, dot_widths, text_place, widths_of, record_end, record_form, form_by};
+ghost use Rattle.std.specs.Prelude.{◌≡◌, ◌+◌, ◌*◌, ◌^◌, ◌<◌, ◌≤◌, cond, length, nat_le, sum, IfOk};
+ghost use Rattle.refusals.specs.Refusals.{number_in};
+ghost use Rattle.form.specs.Fields.{number_at, place_of, size_by};
+ghost use Rattle.form.specs.Forms.{points_widths, pair_count, text_place, widths_of, record_end, record_form};
+ghost use Rattle.form.specs.Kinds.{kind_number};
 
-use crate::fields::{has, number8, number16};
+use crate::fields::{FieldValue, has};
+use crate::kind::Kind;
+use refusals::refusal::Refusal;
 
-// The place after a field of `width` bytes, if it stands.
-fn after(at: usize, map: u8, weight: u8, width: usize) -> usize
-    requires { (1 ≤ weight) × (at + width < 2 ^ 32) }
-    ensures { (result ≡ at + width_in map weight width) × (result ≤ at + width) }
+// The bytes of the fields that stand, of fields of these widths.
+#[inline]
+fn size(map: u8, widths: &[usize]) -> usize
+    requires few { length widths.now ≤ 8 }
+    requires short { sum widths.now < 2 ^ 32 }
+    ensures value { result ≡ size_by map widths.now }
+    ensures bound { result ≤ sum widths.now }
 {
-    if has(map, weight) {
-        return at + width;
+    let mut end = 0;
+    for (k, width) in widths.iter().enumerate() {
+        if has(map, 1 << k) {
+            end += *width;
+        }
     }
-    at
+    end
 }
 
-fn line_size(map: u8) -> usize
-    ensures { result ≡ size_by map line_widths }
+// The same, where no other bit stands.
+#[inline]
+fn whole_size(map: u8, widths: &[usize]) -> Result<usize, Refusal>
+    requires few { length widths.now < 8 }
+    requires short { sum widths.now < 2 ^ 32 }
+    ensures number { number_in result ≡ cond (nat_le (2 ^ length widths.now) map) 16 0 }
+    ensures value { IfOk result (λ n. n ≡ size_by map widths.now) }
 {
-    let a = after(0, map, 1, 8);
-    let b = after(a, map, 2, 8);
-    let c = after(b, map, 4, 8);
-    let d = after(c, map, 8, 8);
-    after(d, map, 16, 4)
-}
-
-fn filled_line_size(map: u8) -> usize
-    ensures { result ≡ size_by map filled_line_widths }
-{
-    let a = after(0, map, 1, 8);
-    let b = after(a, map, 2, 8);
-    let c = after(b, map, 4, 8);
-    let d = after(c, map, 8, 8);
-    let e = after(d, map, 16, 8);
-    after(e, map, 32, 4)
-}
-
-fn circle_size(map: u8) -> usize
-    ensures { result ≡ size_by map circle_widths }
-{
-    let a = after(0, map, 1, 8);
-    let b = after(a, map, 2, 8);
-    let c = after(b, map, 4, 8);
-    after(c, map, 8, 4)
-}
-
-fn wide(n: u16) -> usize
-    ensures { (result ≡ n) × (result < 65536) }
-{
-    n as usize
+    if map >= 1 << widths.len() {
+        return Err(Refusal::Map);
+    }
+    Ok(size(map, widths))
 }
 
 // A text's length, in the byte at a place.
 pub fn text_length(part: &[u8], at: usize) -> usize
     ensures { (result ≡ number_at part.now at 1) × (result < 256) }
 {
-    let n = number8(part, at);
-    n as usize
+    usize::from(u8::read(part, at))
+}
+
+// The bytes of a list of pairs, with its count.
+fn list_width(part: &[u8]) -> usize
+    ensures { (result ≡ 2 + 16 * number_at part.now 0 2) × (result < 2097152) }
+{
+    2 + 16 * usize::from(u16::read(part, 0))
 }
 
 // How many pairs a points record has, and where its list ends.
@@ -65,8 +59,7 @@ pub fn pair_count(map: u8, part: &[u8]) -> usize
     ensures { result ≡ pair_count map part.now }
 {
     if has(map, 1) {
-        let count = number16(part, 0);
-        return wide(count);
+        return usize::from(u16::read(part, 0));
     }
     0
 }
@@ -74,155 +67,54 @@ pub fn pair_count(map: u8, part: &[u8]) -> usize
 pub fn list_end(map: u8, part: &[u8]) -> usize
     ensures { (result ≡ place_of map (points_widths part.now) 1) × (result < 2097152) }
 {
-    let count = number16(part, 0);
-    let n = wide(count);
-    after(0, map, 1, 2 + 16 * n)
-}
-
-fn points_size(map: u8, part: &[u8]) -> usize
-    ensures { result ≡ size_by map (points_widths part.now) }
-{
-    let a = list_end(map, part);
-    after(a, map, 2, 4)
-}
-
-fn marker_size(map: u8) -> usize
-    ensures { result ≡ size_by map marker_widths }
-{
-    let a = after(0, map, 1, 1);
-    after(a, map, 2, 4)
+    size(map, &[list_width(part)])
 }
 
 // Where a label's text begins, with its length.
 pub fn text_place(map: u8) -> usize
     ensures { (result ≡ text_place map) × (result ≤ 20) }
 {
-    let a = after(0, map, 1, 8);
-    let b = after(a, map, 2, 8);
-    after(b, map, 4, 4)
+    size(map, &[8, 8, 4])
 }
 
-fn label_size(map: u8, part: &[u8]) -> usize
-    ensures { result ≡ size_by map (label_widths map part.now) }
+// The bytes of the fields that stand, of a record of this kind.
+#[tactic(auto, unfolding(crate::specs::Forms::widths_of))]
+fn fields_size(kind: Kind, map: u8, part: &[u8]) -> Result<usize, Refusal>
+    ensures number { number_in result ≡ cond (nat_le (2 ^ length (widths_of (kind_number kind) map part.now)) map) 16 0 }
+    ensures value { IfOk result (λ n. n ≡ size_by map (widths_of (kind_number kind) map part.now)) }
 {
-    let at = text_place(map);
-    let n = text_length(part, at);
-    after(at, map, 8, 1 + n)
+    match kind {
+        Kind::Line => whole_size(map, &[8, 8, 8, 8, 4]),
+        Kind::FilledLine => whole_size(map, &[8, 8, 8, 8, 8, 4]),
+        Kind::Rectangle => whole_size(map, &[8, 8, 8, 8, 4]),
+        Kind::Circle => whole_size(map, &[8, 8, 8, 4]),
+        Kind::Points => whole_size(map, &[list_width(part), 4]),
+        Kind::Layer => whole_size(map, &[]),
+        Kind::Marker => whole_size(map, &[1, 4]),
+        Kind::Label => {
+            let text = text_length(part, text_place(map));
+            whole_size(map, &[8, 8, 4, 1 + text])
+        }
+        Kind::Dot => whole_size(map, &[4, 4, 4]),
+    }
 }
 
-fn dot_size(map: u8) -> usize
-    ensures { result ≡ size_by map dot_widths }
-{
-    let a = after(0, map, 1, 4);
-    let b = after(a, map, 2, 4);
-    after(b, map, 4, 4)
-}
-
-// The bytes of the fields that stand.
-fn fields_size(kind: u8, map: u8, part: &[u8]) -> usize
-    ensures { result ≡ size_by map (widths_of kind map part.now) }
-{
-    if kind == 1 {
-        return line_size(map);
-    }
-    if kind == 2 {
-        return filled_line_size(map);
-    }
-    if kind == 3 {
-        return line_size(map);
-    }
-    if kind == 4 {
-        return circle_size(map);
-    }
-    if kind == 5 {
-        return points_size(map, part);
-    }
-    if kind == 7 {
-        return marker_size(map);
-    }
-    if kind == 8 {
-        return label_size(map, part);
-    }
-    if kind == 9 {
-        return dot_size(map);
-    }
-    0
-}
-
-// The number from which on a map has a bit with no field.
-fn map_end(kind: u8) -> u8
-    ensures { (map : ℕ) (part : List ℕ) → result ≡ 2 ^ length (widths_of kind map part) }
-{
-    if kind == 1 {
-        return 32;
-    }
-    if kind == 2 {
-        return 64;
-    }
-    if kind == 3 {
-        return 32;
-    }
-    if kind == 4 {
-        return 16;
-    }
-    if kind == 5 {
-        return 4;
-    }
-    if kind == 7 {
-        return 4;
-    }
-    if kind == 8 {
-        return 16;
-    }
-    if kind == 9 {
-        return 8;
-    }
-    1
-}
-
-// A record's refusal by the form of its bytes, or 0; with 0 the place after the record, so that the
-// size of its fields is worked out once.
-#[derive(Clone, Copy)]
-pub struct Form {
-    pub number: u8,
-    pub end: usize,
-}
-
-fn bad_form(number: u8) -> Form
-    ensures { result ≡ record { number = number; end = 0 } }
-{
-    Form { number, end: 0 }
-}
-
-// A record's form: 17, 14, 15, 16, 14, or 0 with the record's end.
-pub fn record_form(file: &[u8], at: usize) -> Form
-    ensures { result ≡ form_by (record_form file.now at) (record_end file.now at) }
+// The end of the record at a place, or what its form is refused with: 17, 14, 15, 16, 14.
+pub fn record_form(file: &[u8], at: usize) -> Result<usize, Refusal>
+    ensures number { number_in result ≡ record_form file.now at }
+    ensures end { IfOk result (λ end. end ≡ record_end file.now at) }
 {
     if file.len() > 65536 {
-        return bad_form(17);
+        return Err(Refusal::Length);
     }
-    if at > 65536 {
-        return bad_form(14);
+    if at > 65536 || file.len() < at + 2 {
+        return Err(Refusal::Cut);
     }
-    let first = at + 2;
-    if file.len() < first {
-        return bad_form(14);
+    let kind = Kind::try_from(file[at])?;
+    let part = &file[at + 2..];
+    let size = fields_size(kind, file[at + 1], part)?;
+    if part.len() < size {
+        return Err(Refusal::Cut);
     }
-    let kind = file[at];
-    let map = file[at + 1];
-    if (kind < 1) | (kind > 9) {
-        return bad_form(15);
-    }
-    let end = map_end(kind);
-    if map >= end {
-        return bad_form(16);
-    }
-    let size = fields_size(kind, map, &file[first..]);
-    if file.len() - first < size {
-        return bad_form(14);
-    }
-    Form {
-        number: 0,
-        end: first + size,
-    }
+    Ok(at + 2 + size)
 }

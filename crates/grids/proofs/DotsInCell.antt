@@ -20,12 +20,13 @@ use Rattle.grids.specs.Layer.{layer_cell}
 use Rattle.grids.proofs.Words.{over_zero, over-assoc}
 use Rattle.grids.proofs.CellStore.{length-put, cell-put-same, cell-put-other, word-put-other}
 use Rattle.grids.proofs.Patterns.{or_assoc, pattern_lt, pattern-pos}
+use Rattle.grids.specs.declared.markers.Marker.{Marker}
 
-abbrev pub painted_inked : ℕ → Cell → Inked → Cell
+abbrev pub painted_inked : Marker → Cell → Inked → Cell
 painted_inked marker c d = painted_cell marker c d.column d.row (suc d.ink)
 
 -- ---- the store after one dot
-module _ (marker columns rows : ℕ) (cells : List ℕ) (column row word : ℕ) where
+module _ (marker : Marker) (columns rows : ℕ) (cells : List ℕ) (column row word : ℕ) where
   abbrev at : ℕ
   at = cell_index marker columns column row
 
@@ -63,13 +64,13 @@ module _ (marker columns rows : ℕ) (cells : List ℕ) (column row word : ℕ) 
       go false e = refl
 
 -- ---- the store after a list of dots
-pub length-paint-inked : (marker columns rows : ℕ) (dots : List Inked) (cells : List ℕ) → length (paint_inked marker columns rows cells dots) ≡ length cells
+pub length-paint-inked : (marker : Marker) (columns rows : ℕ) (dots : List Inked) (cells : List ℕ) → length (paint_inked marker columns rows cells dots) ≡ length cells
 length-paint-inked marker columns rows [] cells = refl
 length-paint-inked marker columns rows (d ∷ dots) cells =
     length-paint-inked marker columns rows dots (paint_of marker columns rows cells d.column d.row (suc d.ink))
     ∙ length-paint marker columns rows cells d.column d.row (suc d.ink)
 
-pub paint-inked-at : (marker columns rows : ℕ) (dots : List Inked) (cells : List ℕ) (i : ℕ) → i < columns * rows → columns * rows * 5 ≤ length cells
+pub paint-inked-at : (marker : Marker) (columns rows : ℕ) (dots : List Inked) (cells : List ℕ) (i : ℕ) → i < columns * rows → columns * rows * 5 ≤ length cells
     → cell_at (paint_inked marker columns rows cells dots) i ≡ foldl (painted_inked marker) (cell_at cells i) (in_cell marker columns i dots)
 paint-inked-at marker columns rows [] cells i h room = refl
 paint-inked-at marker columns rows (d ∷ dots) cells i h room =
@@ -81,12 +82,12 @@ paint-inked-at marker columns rows (d ∷ dots) cells i h room =
     go true = refl
     go false = refl
 
-pub paint-dots-inked : (marker columns rows ink : ℕ) (dots : List Dot) (cells : List ℕ) → paint_dots marker columns rows (suc ink) cells dots ≡ paint_inked marker columns rows cells (inked ink dots)
+pub paint-dots-inked : (marker : Marker) (columns rows ink : ℕ) (dots : List Dot) (cells : List ℕ) → paint_dots marker columns rows (suc ink) cells dots ≡ paint_inked marker columns rows cells (inked ink dots)
 paint-dots-inked marker columns rows ink [] cells = refl
 paint-dots-inked marker columns rows ink (d ∷ dots) cells = paint-dots-inked marker columns rows ink dots (paint_of marker columns rows cells d.column d.row (suc ink))
 
 -- ---- the grid's words in a cell, after a list of dots
-half-words : (marker : ℕ) → is_half_block marker ≡ true → (dots : List Inked) (c : Cell)
+half-words : (marker : Marker) → is_half_block marker ≡ true → (dots : List Inked) (c : Cell)
     → foldl (painted_inked marker) c dots ≡ with_grid c (over (last_ink (keep is_upper dots)) c.pattern) (over (last_ink (keep is_lower dots)) c.ink)
 unfolding painted_cell
 half-words marker half [] c = refl
@@ -98,7 +99,7 @@ half-words marker half (d ∷ dots) c = rw half (go (is_upper d) (half-words mar
     go true ih = ih (with_grid c (suc d.ink) c.ink) ∙ rw over-assoc
     go false ih = ih (with_grid c c.pattern (suc d.ink)) ∙ rw over-assoc
 
-pattern-words : (marker : ℕ) → is_half_block marker ≡ false → (dots : List Inked) (c : Cell)
+pattern-words : (marker : Marker) → is_half_block marker ≡ false → (dots : List Inked) (c : Cell)
     → foldl (painted_inked marker) c dots ≡ with_grid c (bit_or c.pattern (pattern_of marker dots)) (over (last_ink dots) c.ink)
 unfolding painted_cell
 pattern-words marker other [] c = rw or_zero_r
@@ -106,7 +107,7 @@ pattern-words marker other (d ∷ dots) c =
     rw other
     (pattern-words marker other dots (with_grid c (bit_or c.pattern (bit_of marker d.column d.row)) (suc d.ink)) ∙ rw (or_assoc, over-assoc))
 
-pub painted-picture : (marker : ℕ) (dots : List Inked) (c : Cell) → with_grid (foldl (painted_inked marker) c dots) 0 0 ≡ with_grid c 0 0
+pub painted-picture : (marker : Marker) (dots : List Inked) (c : Cell) → with_grid (foldl (painted_inked marker) c dots) 0 0 ≡ with_grid c 0 0
 painted-picture marker dots c = go (is_half_block marker) refl
   where
     go : (t : Bool) → is_half_block marker ≡ t → with_grid (foldl (painted_inked marker) c dots) 0 0 ≡ with_grid c 0 0
@@ -114,7 +115,7 @@ painted-picture marker dots c = go (is_half_block marker) refl
     go false other = rw (pattern-words marker other dots c)
 
 -- ---- reading the words gives what the dots set
-pub layer-of-dots : (marker character : ℕ) (dots : List Inked) (c : Cell) → layer_cell marker character (foldl (painted_inked marker) (with_grid c 0 0) dots) ≡ set_by marker character dots
+pub layer-of-dots : (marker : Marker) (character : ℕ) (dots : List Inked) (c : Cell) → layer_cell marker character (foldl (painted_inked marker) (with_grid c 0 0) dots) ≡ set_by marker character dots
 unfolding layer_cell set_by half_block_cell
 layer-of-dots marker character dots c = go (is_half_block marker) refl dots
   where

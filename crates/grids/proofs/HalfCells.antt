@@ -9,11 +9,11 @@ use lib.Dec.{eqb, ltb}
 use lib.ListN.{length, get_or, set}
 use lib.Seq.{set-get_or, get_or-set_other}
 use borrow.Author.Tests.{ltb-true, ltb-false, lt-ltb, le-ltb, eqb-true, eqb-false}
-use Rattle.grids.specs.Markers.{dot_size}
 use Rattle.grids.specs.Dots.{cell_index}
 use Rattle.grids.specs.Cells.{words_at, put_words, blank_cell, cell_at, put_cell}
 use Rattle.grids.specs.Painting.{with_grid, painted_cell, paint_of, half_dot, HalfPaints}
 use Rattle.grids.proofs.DotSizes.{cell-index-by}
+use Rattle.grids.specs.declared.markers.Marker.TheVariants.{HalfBlock}
 
 module _ (cells : List ℕ) (i word : ℕ) where
   upper-put : put_words cells i (with_grid (words_at cells i) word (get_or cells (i * 5 + 4) 0)) ≡ set cells (i * 5 + 3) word
@@ -26,9 +26,8 @@ module _ (cells : List ℕ) (i word : ℕ) where
   unfolding put_words words_at
   lower-put = rw (set-get_or cells (i * 5) 0, set-get_or cells (i * 5 + 1) 0, set-get_or cells (i * 5 + 2) 0, set-get_or cells (i * 5 + 3) 0)
 
-half-index : (columns column row : ℕ) → cell_index 5 columns column row ≡ row / 2 * columns + column
-unfolding dot_size
-half-index columns column row = simp (cell-index-by 5 {w = 1} {h = 2} refl, div-one)
+half-index : (columns column row : ℕ) → cell_index HalfBlock columns column row ≡ row / 2 * columns + column
+half-index columns column row = simp (cell-index-by HalfBlock {w = 1} {h = 2} refl, div-one)
 
 pub half-paints : HalfPaints
 unfolding half_dot paint_of painted_cell put_cell cell_at words_at

@@ -10,13 +10,15 @@ use lib.ListN.{length, get_or, set, take, drop, length-take, length-drop}
 use lib.Seq.{set-get_or, get_or-take, get_or-drop, take-set-le, take-set-lt, drop-set-lt, drop-set-add}
 use lib.Bits.{bit_or}
 use borrow.Rule.Slice.PartMut.{put_same}
-use borrow.Author.Tests.{ltb-true, ltb-false, lt-ltb, le-ltb, eq-eqb, ne_eqb}
+use borrow.Author.Tests.{ltb-true, ltb-false, lt-ltb, le-ltb, eq-eqb}
 use Rattle.grids.specs.declared.markers.Size.{Size}
 use Rattle.grids.specs.Markers.{by, dot_size, is_half_block}
 use Rattle.grids.specs.Dots.{cell_index, bit_of}
 use Rattle.grids.specs.Cells.{cell_at, put_cell, words_at, put_words}
 use Rattle.grids.specs.Painting.{painted_cell, paint_of, inked_cell, inked_words, cells_held, dot_set, BraillePaints, PlainPaints}
 use Rattle.grids.proofs.DotSizes.{cell-index-by, bit-by}
+use Rattle.grids.specs.declared.markers.Marker.{Marker}
+use Rattle.grids.specs.declared.markers.Marker.TheVariants.{Braille, Dot, Block, Bar, HalfBlock, Quadrant, Sextant, Custom}
 
 module _ (cells : List ℕ) (i bits word : ℕ) where
   -- only its last two words change
@@ -45,7 +47,7 @@ module _ (cells : List ℕ) (i bits word : ℕ) where
       (simp (take-set-le, drop-set-add, take-set-lt, drop-set-lt) at (put_same n 5 (set (set cells (n + 3) p) (n + 4) word)))
 
 -- ---- a dot painted is its cell inked
-module _ (marker columns rows : ℕ) (other : is_half_block marker ≡ false) (cells : List ℕ) (column row word i : ℕ) (here : i ≡ cell_index marker columns column row) where
+module _ (marker : Marker) (columns rows : ℕ) (other : is_half_block marker ≡ false) (cells : List ℕ) (column row word i : ℕ) (here : i ≡ cell_index marker columns column row) where
   -- 'Pattern and char grids ignore only a flat cell index past the end.'
   pub dot-inked : paint_of marker columns rows cells column row word ≡ cond (ltb i (columns * rows)) (inked_cell cells i (bit_of marker column row) word) cells
   unfolding paint_of painted_cell inked_cell
@@ -55,16 +57,23 @@ module _ (marker columns rows : ℕ) (other : is_half_block marker ≡ false) (c
   ink-paints h = sym (dot-inked ∙ rw (lt-ltb i (columns * rows) h))
 
 module _ (columns rows : ℕ) (cells : List ℕ) (column row word : ℕ) where
-  pub braille-inked-dot : row / 4 * columns + column / 2 < columns * rows → inked_cell cells (row / 4 * columns + column / 2) (2 ^ (row % 4 * 2 + column % 2)) word ≡ paint_of 1 columns rows cells column row word
-  unfolding cell_index bit_of dot_size
-  braille-inked-dot h = ink-paints 1 columns rows refl cells column row word (row / 4 * columns + column / 2) refl h
+  pub braille-inked-dot : row / 4 * columns + column / 2 < columns * rows → inked_cell cells (row / 4 * columns + column / 2) (2 ^ (row % 4 * 2 + column % 2)) word ≡ paint_of Braille columns rows cells column row word
+  unfolding cell_index bit_of
+  braille-inked-dot h = ink-paints Braille columns rows refl cells column row word (row / 4 * columns + column / 2) refl h
 
-module _ (marker : ℕ) (one : dot_size marker ≡ by 1 1) (columns rows : ℕ) (cells : List ℕ) (column row word : ℕ) where
+not_half : (marker : Marker) → dot_size marker ≡ by 1 1 → is_half_block marker ≡ false
+not_half Braille one = refl
+not_half Dot one = refl
+not_half Block one = refl
+not_half Bar one = refl
+not_half HalfBlock one = absurd (omega (arith, ap (λ (s : Size). s.rows) one))
+not_half Quadrant one = refl
+not_half Sextant one = refl
+not_half Custom one = refl
+
+module _ (marker : Marker) (one : dot_size marker ≡ by 1 1) (columns rows : ℕ) (cells : List ℕ) (column row word : ℕ) where
   plain_other : is_half_block marker ≡ false
-  unfolding dot_size
-  plain_other = ne_eqb marker 5 (λ e.
-      let z : ◌≡◌ {A = ℕ} 2 1 = ap (λ (s : Size). s.rows) (sym (ap dot_size e) ∙ one) in
-      omega arith)
+  plain_other = not_half marker one
 
   plain-inked : paint_of marker columns rows cells column row word ≡ cond (ltb (row * columns + column) (columns * rows)) (inked_cell cells (row * columns + column) 1 word) cells
   plain-inked =
@@ -94,11 +103,18 @@ dot-held cells columns rows i bits word end held = go (ltb i end) refl
     go true e = rw (lt-ltb i (columns * rows) (omega (arith, ltb-true i end e)))
     go false e = sym (dot-past cells (columns * rows) i bits word (omega (arith, ltb-false i end e)))
 
+-- a dot of a marker by its dots in a cell
+pub sized-paints : (marker : Marker) {w h : ℕ} → dot_size marker ≡ by w h → is_half_block marker ≡ false → (columns rows : ℕ) (cells : List ℕ) (column row word : ℕ) {end : ℕ} → end ≡ cells_held cells columns rows
+    → dot_set cells end (row / h * columns + column / w) (2 ^ (row % h * w + column % w)) word ≡ paint_of marker columns rows cells column row word
+sized-paints marker {w} {h} size other columns rows cells column row word held =
+    dot-held cells columns rows (row / h * columns + column / w) (2 ^ (row % h * w + column % w)) word _ held
+    ∙ sym (rw (bit-by marker size column row) at (dot-inked marker columns rows other cells column row word (row / h * columns + column / w) (sym (cell-index-by marker size columns column row))))
+
 pub braille-paints : BraillePaints
-unfolding cell_index bit_of dot_size
+unfolding cell_index bit_of
 braille-paints columns rows cells column row word end held =
     let i = row / 4 * columns + column / 2 in
-    dot-held cells columns rows i (2 ^ (row % 4 * 2 + column % 2)) word end held ∙ sym (dot-inked 1 columns rows refl cells column row word i refl)
+    dot-held cells columns rows i (2 ^ (row % 4 * 2 + column % 2)) word end held ∙ sym (dot-inked Braille columns rows refl cells column row word i refl)
 
 pub plain-paints : PlainPaints
 plain-paints marker one columns rows cells column row word end held =

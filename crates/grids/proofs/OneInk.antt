@@ -11,6 +11,7 @@ use Rattle.grids.specs.Markers.{is_half_block}
 use Rattle.grids.specs.Dots.{Inked, cell_index, bit_of, pattern_of, last_ink, is_upper, is_lower, half_block_cell, grid_cell, set_by, layer_sets}
 use Rattle.grids.proofs.Words.{keep_append}
 use Rattle.grids.proofs.Patterns.{or_assoc}
+use Rattle.grids.specs.declared.markers.Marker.{Marker}
 
 -- f does not see a and b change places
 abbrev Blind : {A B : Type 0} → (List A → B) → A → A → Type 0
@@ -26,7 +27,7 @@ blind-kept f t a b swap xs ys = rw (keep_append t xs (a ∷ b ∷ ys), keep_appe
     go false true = refl
     go false false = refl
 
-blind-pattern : (marker : ℕ) (a b : Inked) → Blind (pattern_of marker) a b
+blind-pattern : (marker : Marker) (a b : Inked) → Blind (pattern_of marker) a b
 blind-pattern marker a b [] ys =
     let p = bit_of marker a.column a.row in
     let q = bit_of marker b.column b.row in
@@ -39,16 +40,16 @@ blind-ink a b e [] ys = rw e
 blind-ink a b e (x ∷ xs) ys = rw (blind-ink a b e xs ys)
 
 -- what a list with a dot in it sets
-abbrev set_by_some : ℕ → ℕ → List Inked → LayerCell
+abbrev set_by_some : Marker → ℕ → List Inked → LayerCell
 set_by_some marker character dots =
     cond (is_half_block marker) (half_block_cell (last_ink (keep is_upper dots)) (last_ink (keep is_lower dots))) (grid_cell marker character (pattern_of marker dots) (last_ink dots))
 
-set-by-some : (marker character : ℕ) (xs : List Inked) (d : Inked) (ys : List Inked) → set_by marker character (xs ++ (d ∷ ys)) ≡ set_by_some marker character (xs ++ (d ∷ ys))
+set-by-some : (marker : Marker) (character : ℕ) (xs : List Inked) (d : Inked) (ys : List Inked) → set_by marker character (xs ++ (d ∷ ys)) ≡ set_by_some marker character (xs ++ (d ∷ ys))
 unfolding set_by
 set-by-some marker character [] d ys = refl
 set-by-some marker character (x ∷ xs) d ys = refl
 
-pub set-swap : (marker character : ℕ) (xs : List Inked) (a b : Inked) (ys : List Inked) → a.ink ≡ b.ink → set_by marker character (xs ++ (a ∷ b ∷ ys)) ≡ set_by marker character (xs ++ (b ∷ a ∷ ys))
+pub set-swap : (marker : Marker) (character : ℕ) (xs : List Inked) (a b : Inked) (ys : List Inked) → a.ink ≡ b.ink → set_by marker character (xs ++ (a ∷ b ∷ ys)) ≡ set_by marker character (xs ++ (b ∷ a ∷ ys))
 set-swap marker character xs a b ys e =
     set-by-some marker character xs a (b ∷ ys)
     ∙ rw (
@@ -59,6 +60,6 @@ set-swap marker character xs a b ys e =
     )
     (sym (set-by-some marker character xs b (a ∷ ys)))
 
-pub layer-swap : (marker character columns : ℕ) (xs : List Inked) (a b : Inked) (ys : List Inked) (i : ℕ) → a.ink ≡ b.ink → layer_sets marker character columns (xs ++ (a ∷ b ∷ ys)) i ≡ layer_sets marker character columns (xs ++ (b ∷ a ∷ ys)) i
+pub layer-swap : (marker : Marker) (character columns : ℕ) (xs : List Inked) (a b : Inked) (ys : List Inked) (i : ℕ) → a.ink ≡ b.ink → layer_sets marker character columns (xs ++ (a ∷ b ∷ ys)) i ≡ layer_sets marker character columns (xs ++ (b ∷ a ∷ ys)) i
 layer-swap marker character columns xs a b ys i e =
     blind-kept (set_by marker character) (λ d. eqb (cell_index marker columns d.column d.row) i) a b (λ us vs. set-swap marker character us a b vs e) xs ys

@@ -13,6 +13,8 @@ use Rattle.grids.specs.declared.markers.Size.{Size}
 use Rattle.grids.specs.Markers.{dot_size, dot_columns, dot_rows}
 use Rattle.grids.specs.Symbols.{pattern_count}
 use Rattle.grids.specs.Dots.{Inked, bit_of, pattern_of}
+use Rattle.grids.specs.declared.markers.Marker.{Marker}
+use Rattle.grids.specs.declared.markers.Marker.TheVariants.{Braille, Dot, Block, Bar, HalfBlock, Quadrant, Sextant, Custom}
 
 abbrev pub any : {A : Type 0} → (A → Bool) → List A → Bool
 any test [] = false
@@ -42,34 +44,32 @@ pub or-pos : (a b : ℕ) → 0 < a → 0 < bit_or a b
 or-pos a b h = omega (arith, or_add_and a b, and_le_r a b)
 
 -- ---- a pattern's size
-cond_both : {A : Type 0} (P : A → Type 0) (t : Bool) (x y : A) → P x → P y → P (cond t x y)
-cond_both P true x y p q = p
-cond_both P false x y p q = q
-
 abbrev HasDots : Size → Type 0
 HasDots s = (0 < s.columns) × (0 < s.rows)
 
-has-dots : (marker : ℕ) → HasDots (dot_size marker)
-unfolding dot_size
-has-dots marker =
-    cond_both HasDots (eqb marker 1) _ _ (omega arith, omega arith)
-    (cond_both HasDots (eqb marker 5) _ _ (omega arith, omega arith)
-    (cond_both HasDots (eqb marker 6) _ _ (omega arith, omega arith)
-    (cond_both HasDots (eqb marker 7) _ _ (omega arith, omega arith) (omega arith, omega arith))))
+has-dots : (marker : Marker) → HasDots (dot_size marker)
+has-dots Braille = (omega arith, omega arith)
+has-dots Dot = (omega arith, omega arith)
+has-dots Block = (omega arith, omega arith)
+has-dots Bar = (omega arith, omega arith)
+has-dots HalfBlock = (omega arith, omega arith)
+has-dots Quadrant = (omega arith, omega arith)
+has-dots Sextant = (omega arith, omega arith)
+has-dots Custom = (omega arith, omega arith)
 
-bit-lt : (marker column row : ℕ) → bit_of marker column row < pattern_count marker
+bit-lt : (marker : Marker) (column row : ℕ) → bit_of marker column row < pattern_count marker
 unfolding bit_of pattern_count
 bit-lt marker column row =
     rw (mul_comm (dot_columns marker) (dot_rows marker))
     (pow-lt (digits_lt (mod-lt row (has-dots marker).1) (mod-lt column (has-dots marker).0)))
 
-pub pattern_lt : (marker : ℕ) (dots : List Inked) → pattern_of marker dots < pattern_count marker
+pub pattern_lt : (marker : Marker) (dots : List Inked) → pattern_of marker dots < pattern_count marker
 unfolding pattern_count
 pattern_lt marker [] = pow_pos (dot_columns marker * dot_rows marker)
 pattern_lt marker (d ∷ dots) =
     or_lt (dot_columns marker * dot_rows marker) (bit_of marker d.column d.row) (pattern_of marker dots) (bit-lt marker d.column d.row) (pattern_lt marker dots)
 
-pub pattern-pos : (marker : ℕ) (d : Inked) (dots : List Inked) → 0 < pattern_of marker (d ∷ dots)
+pub pattern-pos : (marker : Marker) (d : Inked) (dots : List Inked) → 0 < pattern_of marker (d ∷ dots)
 unfolding bit_of
 pattern-pos marker d dots = or-pos (bit_of marker d.column d.row) (pattern_of marker dots) (pow_pos _)
 
@@ -95,10 +95,10 @@ bit-pow (suc k) (suc q) = bit-suc k (2 ^ suc q) ∙ ap (bit_at k) halved ∙ bit
     halved : 2 ^ suc q / 2 ≡ 2 ^ q
     halved = omega arith
 
-abbrev place_of : ℕ → Inked → ℕ
+abbrev place_of : Marker → Inked → ℕ
 place_of marker d = d.row % dot_rows marker * dot_columns marker + d.column % dot_columns marker
 
-pub pattern-bit : (marker : ℕ) (dots : List Inked) (k : ℕ) → (pattern_of marker dots / 2 ^ k) % 2 ≡ cond (any (λ d. eqb (d.row % dot_rows marker * dot_columns marker + d.column % dot_columns marker) k) dots) 1 0
+pub pattern-bit : (marker : Marker) (dots : List Inked) (k : ℕ) → (pattern_of marker dots / 2 ^ k) % 2 ≡ cond (any (λ d. eqb (d.row % dot_rows marker * dot_columns marker + d.column % dot_columns marker) k) dots) 1 0
 unfolding bit_of
 pattern-bit marker [] k = bit-zero k
 pattern-bit marker (d ∷ dots) k =

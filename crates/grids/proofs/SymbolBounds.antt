@@ -1,4 +1,4 @@
--- Every symbol is below 2^21, so that its word fits: by cases on the tests.
+-- Every symbol is below 2^21, so that its word fits: by cases on the marker and the tests.
 use Prim.Native.Nat.{ℕ, zero, suc, ◌<◌, ◌≤◌, ◌+◌, ◌%◌, ◌^◌}
 use mathlib.Core.List.{List, [], ◌∷◌}
 use native.Mathlib.Nat.{mod-lt}
@@ -7,6 +7,8 @@ use lib.ListN.{get_or}
 use lib.Dec.{eqb}
 use Rattle.grids.specs.Symbols.{braille_symbol, quadrant_symbol, sextant_symbol, symbol_of, quadrants}
 use Rattle.grids.proofs.Cases.{either}
+use Rattle.grids.specs.declared.markers.Marker.{Marker}
+use Rattle.grids.specs.declared.markers.Marker.TheVariants.{Braille, Dot, Block, Bar, HalfBlock, Quadrant, Sextant, Custom}
 
 abbrev Low : ℕ → Type 0
 Low n = n < 2 ^ 21
@@ -35,16 +37,16 @@ sextant-lt pattern =
     let p = pattern % 64 in
     either Low (eqb p 21) (omega arith) (either Low (eqb p 42) (omega arith) (either Low (eqb p 63) (omega arith) (omega arith)))
 
-pub symbol-lt : (marker character pattern : ℕ) → character < 2 ^ 21 → symbol_of marker character pattern < 2 ^ 21
-unfolding symbol_of
-symbol-lt marker character pattern h =
-    either Low (eqb marker 1) (braille-lt pattern)
-    (either Low (eqb marker 3) (omega arith)
-    (either Low (eqb marker 4) (omega arith)
-    (either Low (eqb marker 6) (quadrant-lt pattern)
-    (either Low (eqb marker 7) (sextant-lt pattern)
-    (either Low (eqb marker 8) h (omega arith))))))
+pub symbol-lt : (marker : Marker) (character pattern : ℕ) → character < 2 ^ 21 → symbol_of marker character pattern < 2 ^ 21
+symbol-lt Braille character pattern h = braille-lt pattern
+symbol-lt Dot character pattern h = omega arith
+symbol-lt Block character pattern h = omega arith
+symbol-lt Bar character pattern h = omega arith
+symbol-lt HalfBlock character pattern h = omega arith
+symbol-lt Quadrant character pattern h = quadrant-lt pattern
+symbol-lt Sextant character pattern h = sextant-lt pattern
+symbol-lt Custom character pattern h = h
 
 -- with any character, read modulo 2^21
-pub read-symbol-lt : (marker character pattern : ℕ) → symbol_of marker (character % 2 ^ 21) pattern < 2 ^ 21
+pub read-symbol-lt : (marker : Marker) (character pattern : ℕ) → symbol_of marker (character % 2 ^ 21) pattern < 2 ^ 21
 read-symbol-lt marker character pattern = symbol-lt marker (character % 2 ^ 21) pattern (mod-lt character (omega arith))

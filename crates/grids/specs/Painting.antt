@@ -6,34 +6,36 @@ use Rattle.grids.specs.Lists.{foldl}
 use Rattle.grids.specs.Markers.{by, dot_size, is_half_block}
 use Rattle.grids.specs.Dots.{Inked, cell_index, bit_of}
 use Rattle.grids.specs.Cells.{cell_at, put_cell}
+use Rattle.grids.specs.declared.markers.Marker.{Marker}
+use Rattle.grids.specs.declared.markers.Marker.TheVariants.{Braille, HalfBlock}
 use Rattle.grids.specs.declared.cells.Cell.{Cell}
 
 abbrev pub with_grid : Cell → ℕ → ℕ → Cell
 with_grid c pattern ink = record { symbol = c.symbol; foreground = c.foreground; background = c.background; pattern = pattern; ink = ink }
 
 -- a cell with a dot painted: a pattern or character grid sets the dot's bit and the ink, HalfBlock the upper or lower half's ink
-unfoldable pub painted_cell : ℕ → Cell → ℕ → ℕ → ℕ → Cell
+unfoldable pub painted_cell : Marker → Cell → ℕ → ℕ → ℕ → Cell
 painted_cell marker c column row word =
     cond (is_half_block marker)
     (cond (eqb (row % 2) 0) (with_grid c word c.ink) (with_grid c c.pattern word))
     (with_grid c (bit_or c.pattern (bit_of marker column row)) word)
 
 -- 'Pattern and char grids ignore only a flat cell index past the end.'
-unfoldable pub paint_of : ℕ → ℕ → ℕ → List ℕ → ℕ → ℕ → ℕ → List ℕ
+unfoldable pub paint_of : Marker → ℕ → ℕ → List ℕ → ℕ → ℕ → ℕ → List ℕ
 paint_of marker columns rows cells column row word =
     cond (ltb (cell_index marker columns column row) (columns * rows))
     (put_cell cells (cell_index marker columns column row) (painted_cell marker (cell_at cells (cell_index marker columns column row)) column row word))
     cells
 
 -- dots of one ink, by its word
-abbrev pub paint_dots : ℕ → ℕ → ℕ → ℕ → List ℕ → List Dot → List ℕ
+abbrev pub paint_dots : Marker → ℕ → ℕ → ℕ → List ℕ → List Dot → List ℕ
 paint_dots marker columns rows word cells dots = foldl (λ s d. paint_of marker columns rows s d.column d.row word) cells dots
 
 -- dots with their own inks
 abbrev pub inked : ℕ → List Dot → List Inked
 inked ink dots = map (λ d. record { column = d.column; row = d.row; ink = ink }) dots
 
-abbrev pub paint_inked : ℕ → ℕ → ℕ → List ℕ → List Inked → List ℕ
+abbrev pub paint_inked : Marker → ℕ → ℕ → List ℕ → List Inked → List ℕ
 paint_inked marker columns rows cells dots = foldl (λ s d. paint_of marker columns rows s d.column d.row (suc d.ink)) cells dots
 
 -- ---- the same by the two words of the grid, which a dot of any grid but HalfBlock changes
@@ -69,12 +71,12 @@ half_dot columns end cells column row word =
 -- Where `end` is the number of cells held, they paint what `paint_of` does.
 abbrev pub BraillePaints : Type 0
 BraillePaints = (columns rows : ℕ) (cells : List ℕ) (column row word end : ℕ) → end ≡ cells_held cells columns rows
-    → braille_dot columns end cells column row word ≡ paint_of 1 columns rows cells column row word
+    → braille_dot columns end cells column row word ≡ paint_of Braille columns rows cells column row word
 
 abbrev pub PlainPaints : Type 0
-PlainPaints = (marker : ℕ) → dot_size marker ≡ by 1 1 → (columns rows : ℕ) (cells : List ℕ) (column row word end : ℕ) → end ≡ cells_held cells columns rows
+PlainPaints = (marker : Marker) → dot_size marker ≡ by 1 1 → (columns rows : ℕ) (cells : List ℕ) (column row word end : ℕ) → end ≡ cells_held cells columns rows
     → plain_dot columns end cells column row word ≡ paint_of marker columns rows cells column row word
 
 abbrev pub HalfPaints : Type 0
 HalfPaints = (columns rows : ℕ) (cells : List ℕ) (column row word end : ℕ) → end ≡ cells_held cells columns rows
-    → half_dot columns end cells column row word ≡ paint_of 5 columns rows cells column row word
+    → half_dot columns end cells column row word ≡ paint_of HalfBlock columns rows cells column row word

@@ -1,5 +1,7 @@
 -- Document 01, 'Grids': the symbols, as it lists the Unicode charts. 'A stored pattern is read modulo its table's length.'
 use Rattle.std.specs.Prelude.{ℕ, ◌+◌, ◌-◌, ◌*◌, ◌/◌, ◌%◌, ◌^◌, cond, List, [], ◌∷◌, eqb, ltb, get_or}
+use Rattle.grids.specs.declared.markers.Marker.{Marker}
+use Rattle.grids.specs.declared.markers.Marker.TheVariants.{Braille, Dot, Block, Bar, HalfBlock, Quadrant, Sextant, Custom}
 use Rattle.grids.specs.Markers.{dot_columns, dot_rows}
 
 -- the weights of the bits that stand, from bit 0 on
@@ -34,16 +36,16 @@ unfoldable pub sextant_symbol : ℕ → ℕ
 sextant_symbol pattern = sextant (pattern % 64)
 
 -- as many patterns as a cell's dots have
-unfoldable pub pattern_count : ℕ → ℕ
+unfoldable pub pattern_count : Marker → ℕ
 pattern_count marker = 2 ^ (dot_columns marker * dot_rows marker)
 
--- '1 Braille ..., 2 Dot (2022), 3 Block (2588 ...), 4 Bar (2584), ... 6 Quadrant ..., 7 Sextant ..., 8 Custom'. A number that is no marker counts as Dot, as in the Rust.
-unfoldable pub symbol_of : ℕ → ℕ → ℕ → ℕ
-symbol_of marker character pattern =
-    cond (eqb marker 1) (braille_symbol pattern)
-    (cond (eqb marker 3) 0x2588
-    (cond (eqb marker 4) 0x2584
-    (cond (eqb marker 6) (quadrant_symbol pattern)
-    (cond (eqb marker 7) (sextant_symbol pattern)
-    (cond (eqb marker 8) character
-    0x2022)))))
+-- '1 Braille ..., 2 Dot (2022), 3 Block (2588 ...), 4 Bar (2584), ... 6 Quadrant ..., 7 Sextant ..., 8 Custom'. HalfBlock's symbols are not by its pattern
+abbrev pub symbol_of : Marker → ℕ → ℕ → ℕ
+symbol_of Braille character pattern = braille_symbol pattern
+symbol_of Dot character pattern = 0x2022
+symbol_of Block character pattern = 0x2588
+symbol_of Bar character pattern = 0x2584
+symbol_of HalfBlock character pattern = 0x2022
+symbol_of Quadrant character pattern = quadrant_symbol pattern
+symbol_of Sextant character pattern = sextant_symbol pattern
+symbol_of Custom character pattern = character

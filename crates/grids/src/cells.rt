@@ -9,7 +9,7 @@ pub const CELL_WORDS: usize = 5;
 
 // A cell: the composed picture's symbol and colours, then what the grid being drawn holds. That is a
 // pattern of dots and the last one's ink; on a HalfBlock grid the upper dot's ink and the lower's.
-#[derive(Clone, Copy)]
+#[derive(Clone, Copy, Default)]
 pub struct Cell {
     pub symbol: u32,
     pub foreground: u32,
@@ -19,6 +19,7 @@ pub struct Cell {
 }
 
 // The cell i of the store; blank past its last whole cell.
+#[tactic(auto, unfolding(crate::specs::Cells::cell_at, crate::specs::Cells::words_at))]
 pub fn load(cells: &[u32], i: usize) -> Cell
     ensures { result ≡ cell_at cells.now i }
 {
@@ -32,13 +33,7 @@ pub fn load(cells: &[u32], i: usize) -> Cell
             ink: cells[k + 4],
         }
     } else {
-        Cell {
-            symbol: 0,
-            foreground: 0,
-            background: 0,
-            pattern: 0,
-            ink: 0,
-        }
+        Cell::default()
     }
 }
 

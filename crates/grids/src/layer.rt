@@ -2,7 +2,7 @@
 // Crate layers works it out.
 
 // What a layer sets in a cell.
-#[derive(Clone, Copy)]
+#[derive(Clone, Copy, Default)]
 pub struct LayerCell {
     pub symbol: u32,
     pub foreground: u32,

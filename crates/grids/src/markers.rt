@@ -1,7 +1,38 @@
-// The markers of document 01, 'Grids': 1 Braille, 2 Dot, 3 Block, 4 Bar, 5 HalfBlock, 6 Quadrant,
-// 7 Sextant, 8 Custom.
+// The markers of document 01, 'Grids'.
 ghost use Rattle.std.specs.Prelude.{◌≡◌};
-ghost use Rattle.grids.specs.Markers.{dot_size, is_plain, is_scalar, is_marker, resolution_of};
+ghost use Rattle.grids.specs.Markers.{marker_of, dot_size, is_plain, is_scalar, is_marker, resolution_of};
+
+// The kind of the dots, and of the symbols that show them.
+#[derive(Clone, Copy, PartialEq, Eq, Debug)]
+pub enum Marker {
+    Braille,
+    Dot,
+    Block,
+    Bar,
+    HalfBlock,
+    Quadrant,
+    Sextant,
+    Custom,
+}
+
+// By the number, 1 to 8 in the order above. Any other counts as Dot, as in the Rust.
+impl From<u8> for Marker {
+    ghost from_gives = { λ number marker. marker ≡ marker_of number };
+
+    #[tactic(auto, unfolding(crate::specs::Markers::marker_of))]
+    fn from(number: u8) -> Marker {
+        match number {
+            1 => Marker::Braille,
+            3 => Marker::Block,
+            4 => Marker::Bar,
+            5 => Marker::HalfBlock,
+            6 => Marker::Quadrant,
+            7 => Marker::Sextant,
+            8 => Marker::Custom,
+            _ => Marker::Dot,
+        }
+    }
+}
 
 // A number of columns and of rows.
 #[derive(Clone, Copy)]
@@ -11,54 +42,37 @@ pub struct Size {
 }
 
 // The dots in a cell, across and down.
-pub fn dot_size(marker: u8) -> Size
+pub fn dot_size(marker: Marker) -> Size
     ensures { result ≡ dot_size marker }
 {
-    if marker == 1 {
-        return Size {
-            columns: 2,
-            rows: 4,
-        };
-    }
-    if marker == 5 {
-        return Size {
-            columns: 1,
-            rows: 2,
-        };
-    }
-    if marker == 6 {
-        return Size {
-            columns: 2,
-            rows: 2,
-        };
-    }
-    if marker == 7 {
-        return Size {
-            columns: 2,
-            rows: 3,
-        };
-    }
-    Size {
-        columns: 1,
-        rows: 1,
-    }
+    let (columns, rows) = match marker {
+        Marker::Braille => (2, 4),
+        Marker::HalfBlock => (1, 2),
+        Marker::Quadrant => (2, 2),
+        Marker::Sextant => (2, 3),
+        Marker::Dot | Marker::Block | Marker::Bar | Marker::Custom => (1, 1),
+    };
+    Size { columns, rows }
 }
 
 // Whether a marker's cells are of one dot: not Braille, HalfBlock, Quadrant or Sextant.
-pub fn is_plain(marker: u8) -> bool
+pub fn is_plain(marker: Marker) -> bool
     ensures { result ≡ is_plain marker }
 {
-    (marker != 1) & ((marker < 5) | (marker >= 8))
+    matches!(
+        marker,
+        Marker::Dot | Marker::Block | Marker::Bar | Marker::Custom
+    )
 }
 
 // The dots of a grid of cells, across and down.
-pub fn resolution(marker: u8, columns: u16, rows: u16) -> Size
+pub fn resolution(marker: Marker, columns: u16, rows: u16) -> Size
     ensures { result ≡ resolution_of marker columns rows }
 {
     let size = dot_size(marker);
     Size {
-        columns: (columns as u32) * size.columns,
-        rows: (rows as u32) * size.rows,
+        columns: u32::from(columns) * size.columns,
+        rows: u32::from(rows) * size.rows,
     }
 }
 
@@ -66,15 +80,18 @@ pub fn resolution(marker: u8, columns: u16, rows: u16) -> Size
 pub fn is_scalar(c: u32) -> bool
     ensures { result ≡ is_scalar c }
 {
-    (c < 0xD800) | ((c >= 0xE000) & (c < 0x110000))
+    char::from_u32(c).is_some()
 }
 
-// Whether there is such a marker: 1 to 8, and 8 with a scalar value for its character.
+// Whether there is such a marker: 1 to 8, and 8 with a scalar value for its character. Of the number as it
+// is given, since document 01 refuses one that is no marker.
+#[tactic(auto, unfolding(crate::specs::Markers::is_marker))]
 pub fn is_marker(marker: u8, character: u32) -> bool
     ensures { result ≡ is_marker marker character }
 {
-    if marker == 8 {
-        return is_scalar(character);
+    match marker {
+        8 => is_scalar(character),
+        1..=7 => true,
+        _ => false,
     }
-    (marker >= 1) & (marker < 8)
 }

@@ -3,6 +3,8 @@
 ghost use Rattle.std.specs.Prelude.{◌≡◌, ◌%◌, ◌^◌};
 ghost use Rattle.grids.specs.Symbols.{braille_symbol, quadrant_symbol, sextant_symbol, pattern_count, symbol_of};
 
+use crate::markers::Marker;
+
 const BRAILLE_WEIGHTS: [u32; 8] = [1, 8, 2, 16, 4, 32, 64, 128];
 
 const QUADRANTS: [u32; 16] = [
@@ -26,77 +28,54 @@ pub fn braille_symbol(pattern: u32) -> u32
     0x2800 + low + high
 }
 
+#[tactic(auto, unfolding(crate::specs::Symbols::quadrant_symbol))]
 pub fn quadrant_symbol(pattern: u32) -> u32
     ensures { result ≡ quadrant_symbol pattern }
 {
-    let k = (pattern % 16) as usize;
-    QUADRANTS[k]
+    QUADRANTS[(pattern % 16) as usize]
 }
 
 // 1FB00 and on, without the patterns that the Block Elements have already.
+#[tactic(auto, unfolding(crate::specs::Symbols::sextant_symbol))]
 pub fn sextant_symbol(pattern: u32) -> u32
     ensures { result ≡ sextant_symbol pattern }
 {
-    let p = pattern % 64;
-    if p == 21 {
-        return 0x258C;
+    match pattern % 64 {
+        21 => 0x258C,
+        42 => 0x2590,
+        63 => 0x2588,
+        p if p > 42 => 0x1FB00 + p - 3,
+        p if p > 21 => 0x1FB00 + p - 2,
+        p => 0x1FAFF + p,
     }
-    if p == 42 {
-        return 0x2590;
-    }
-    if p == 63 {
-        return 0x2588;
-    }
-    if p > 42 {
-        return 0x1FB00 + p - 3;
-    }
-    if p > 21 {
-        return 0x1FB00 + p - 2;
-    }
-    0x1FAFF + p
 }
 
-// A stored pattern, read modulo its table's length.
-pub fn read_pattern(marker: u8, pattern: u32) -> u32
+// A stored pattern, read modulo its table's length: by constants, since by dot_size it would be a division.
+#[tactic(auto, unfolding(crate::specs::Symbols::pattern_count))]
+pub fn read_pattern(marker: Marker, pattern: u32) -> u32
     ensures { result ≡ pattern % pattern_count marker }
 {
-    if marker == 1 {
-        return pattern % 256;
+    match marker {
+        Marker::Braille => pattern % 256,
+        Marker::HalfBlock => pattern % 4,
+        Marker::Quadrant => pattern % 16,
+        Marker::Sextant => pattern % 64,
+        Marker::Dot | Marker::Block | Marker::Bar | Marker::Custom => pattern % 2,
     }
-    if marker == 5 {
-        return pattern % 4;
-    }
-    if marker == 6 {
-        return pattern % 16;
-    }
-    if marker == 7 {
-        return pattern % 64;
-    }
-    pattern % 2
 }
 
 // The symbol of a pattern of dots; the character grids have one for every pattern. Custom's
 // character is read modulo 2^21, which is above every scalar value.
-pub fn symbol(marker: u8, character: u32, pattern: u32) -> u32
+pub fn symbol(marker: Marker, character: u32, pattern: u32) -> u32
     ensures { result ≡ symbol_of marker (character % 2 ^ 21) pattern }
 {
-    if marker == 1 {
-        return braille_symbol(pattern);
+    match marker {
+        Marker::Braille => braille_symbol(pattern),
+        Marker::Dot | Marker::HalfBlock => 0x2022,
+        Marker::Block => 0x2588,
+        Marker::Bar => 0x2584,
+        Marker::Quadrant => quadrant_symbol(pattern),
+        Marker::Sextant => sextant_symbol(pattern),
+        Marker::Custom => character % 2097152,
     }
-    if marker == 3 {
-        return 0x2588;
-    }
-    if marker == 4 {
-        return 0x2584;
-    }
-    if marker == 6 {
-        return quadrant_symbol(pattern);
-    }
-    if marker == 7 {
-        return sextant_symbol(pattern);
-    }
-    if marker == 8 {
-        return character % 2097152;
-    }
-    0x2022
 }

@@ -1,20 +1,23 @@
 -- A call on lent words is the call on the canvas that they mean, put into the words again.
 use Prim.Native.Nat.{ℕ, zero, suc}
 use mathlib.Core.Bool.{true, false}
-use mathlib.Core.Path.{◌≡◌, refl, ap, ◌∙◌}
+use mathlib.Core.Path.{◌≡◌, refl, ap, ap₂, ◌∙◌}
+use Rattle.std.specs.Prelude.{Option, Result, Ok, Err}
 use mathlib.Core.List.{List}
 use lib.Ieee.{Float}
 use lib.ListN.{length}
 use Rattle.ledger.specs.Calls.{Opening, Call, draw, points, dot, layer, marker, print, render, open_refusal}
 use Rattle.ledger.specs.Ledger.{unless}
 use Rattle.ledger.specs.Model.{State, open_cells, refusal_on, accepted_on, state_after}
-use Rattle.ledger.specs.Outcomes.{given, accepted_answer, answer_unless, answer_on, called_on, open_called, screen_on}
+use Rattle.ledger.specs.Outcomes.{given, accepted_answer, answer_unless, answer_on, open_called, screen_on}
 use Rattle.ledger.specs.declared.state.Canvas.{Canvas}
-use Rattle.ledger.specs.declared.state.Answer.TheVariants.{Done}
-use Rattle.ledger.specs.declared.state.Called.{Called}
-use Rattle.ledger.specs.declared.labels.Choice.{Choice}
+use Rattle.ledger.specs.Answer.{Answer, Done, Called}
 use Rattle.ledger.specs.declared.screen.Area.{Area}
-use Rattle.words.specs.Words.{short_words, canvas_of, all_words, status_of, words_after, painted_after, label_cells_after}
+use Rattle.refusals.specs.declared.refusal.Refusal.{Refusal}
+use Rattle.refusals.specs.Refusals.{number_in}
+use Rattle.canvas.specs.declared.calls.Rendered.{Rendered as Counts}
+use Rattle.canvas.specs.Results.{opened, painted, done, rendered}
+use Rattle.words.specs.Words.{short_words, canvas_of, all_words, status_of, words_after, words_left, painted_after, label_cells_after}
 use Rattle.words.specs.Hosted.{Host, state_of, host_after, host_open_refusal, host_opened}
 use Rattle.hosts.specs.Calls.{Answered, Marked, Drawn, Printed, Rendered, Opened}
 
@@ -67,7 +70,7 @@ labels-stay s c reads = go (refusal_on s c)
     go zero = labels-accepted s c reads
     go (suc n) = refl
 
-cells_stay : (s : State) (x y : Float) (text : List ℕ) (choice : Choice) → s.cells ≡ (state_after s (print x y text choice)).cells
+cells_stay : (s : State) (x y : Float) (text : List ℕ) (choice : Option ℕ) → s.cells ≡ (state_after s (print x y text choice)).cells
 unfolding state_after
 cells_stay s x y text choice = go (refusal_on s (print x y text choice))
   where
@@ -75,24 +78,41 @@ cells_stay s x y text choice = go (refusal_on s (print x y text choice))
     go zero = refl
     go (suc n) = refl
 
--- ---- a call: what `finish` leaves of what the call by value gave
-abbrev Finished : Host → Called → ℕ → List ℕ → Type 0
-Finished h called r words = (r ≡ status_of called.answer) × (words ≡ words_after h.words called.answer called.canvas)
+-- ---- a call: what `finish` leaves of its result
+pub record Finished (h : Host) (answer : Answer) (after : Canvas) (r : ℕ) (words : List ℕ) : Type 0 where
+  pub status : r ≡ status_of answer
+  pub words_left : words ≡ words_after h.words answer after
 
-module _ (h : Host) (c : Call) {canvas : Canvas} {called : Called} (loaded : canvas ≡ canvas_of h.words)
-    (is : called ≡ called_on (given canvas h.cells h.labels) c) where
-  called_on_lem : called ≡ called_on (state_of h) c
-  called_on_lem = is ∙ ap (λ (k : Canvas). called_on (given k h.cells h.labels) c) loaded
+module _ (h : Host) {after : Canvas} {r : ℕ} {words : List ℕ} where
+  pub painted-finished : (called : Result ℕ Refusal) → r ≡ number_in called → words ≡ words_left h.words called after → Finished h (painted called) after r words
+  painted-finished (Ok n) s w = record { status = s; words_left = w }
+  painted-finished (Err refusal) s w = record { status = s; words_left = w }
 
-  answered : {r : ℕ} {words : List ℕ} → Finished h called r words → Answered h c r words
+  pub done-finished : (called : Result (Unit {0}) Refusal) → r ≡ number_in called → words ≡ words_left h.words called after → Finished h (done called) after r words
+  done-finished (Ok x) s w = record { status = s; words_left = w }
+  done-finished (Err refusal) s w = record { status = s; words_left = w }
+
+  pub rendered-finished : (called : Result Counts Refusal) → r ≡ number_in called → words ≡ words_left h.words called after → Finished h (rendered called) after r words
+  rendered-finished (Ok x) s w = record { status = s; words_left = w }
+  rendered-finished (Err refusal) s w = record { status = s; words_left = w }
+
+module _ (h : Host) (c : Call) {canvas after : Canvas} {answer : Answer} (loaded : canvas ≡ canvas_of h.words)
+    (answer_is : answer ≡ answer_on (given canvas h.cells h.labels) c) (after_is : after ≡ (state_after (given canvas h.cells h.labels) c).canvas) where
+  answer-lem : answer ≡ answer_on (state_of h) c
+  answer-lem = answer_is ∙ ap (λ (k : Canvas). answer_on (given k h.cells h.labels) c) loaded
+
+  after-lem : after ≡ (state_after (state_of h) c).canvas
+  after-lem = after_is ∙ ap (λ (k : Canvas). (state_after (given k h.cells h.labels) c).canvas) loaded
+
+  answered : {r : ℕ} {words : List ℕ} → Finished h answer after r words → Answered h c r words
   unfolding host_after
   answered w = record {
-    status = w.0 ∙ ap (λ (d : Called). status_of d.answer) called_on_lem ∙ status-is (state_of h) c;
-    words_left = w.1 ∙ ap (λ (d : Called). words_after h.words d.answer d.canvas) called_on_lem;
+    status = w.status ∙ ap status_of answer-lem ∙ status-is (state_of h) c;
+    words_left = w.words_left ∙ ap₂ (words_after h.words) answer-lem after-lem;
   }
 
   pub marked : {r : ℕ} {words cells : List ℕ} → ReadsLabels c → cells ≡ (state_after (given canvas h.cells h.labels) c).cells
-      → Finished h called r words → Marked h c r words cells
+      → Finished h answer after r words → Marked h c r words cells
   unfolding host_after
   marked reads e w = record {
     answered = answered w;
@@ -100,33 +120,35 @@ module _ (h : Host) (c : Call) {canvas : Canvas} {called : Called} (loaded : can
     labels_left = labels-stay (state_of h) c reads;
   }
 
-  pub drawn : (before : ℕ) {r : ℕ} {words cells : List ℕ} {painted : ℕ} → ReadsLabels c → cells ≡ (state_after (given canvas h.cells h.labels) c).cells
-      → Finished h called r words → painted ≡ painted_after before called.answer → Drawn h c before r words cells painted
-  drawn before reads e w p = record { marked = marked reads e w; painted_left = p ∙ ap (λ (d : Called). painted_after before d.answer) called_on_lem }
+  pub drawn : (before : ℕ) {r : ℕ} {words cells : List ℕ} {number : ℕ} → ReadsLabels c → cells ≡ (state_after (given canvas h.cells h.labels) c).cells
+      → Finished h answer after r words → number ≡ painted_after before answer → Drawn h c before r words cells number
+  drawn before reads e w p = record { marked = marked reads e w; painted_left = p ∙ ap (painted_after before) answer-lem }
 
 -- ---- a print: the labels are written, and the cells read
-module _ (h : Host) (x y : Float) (text : List ℕ) (choice : Choice) {canvas : Canvas} {called : Called} (loaded : canvas ≡ canvas_of h.words)
-    (is : called ≡ called_on (given canvas h.cells h.labels) (print x y text choice)) where
+module _ (h : Host) (x y : Float) (text : List ℕ) (choice : Option ℕ) {canvas after : Canvas} {answer : Answer} (loaded : canvas ≡ canvas_of h.words)
+    (answer_is : answer ≡ answer_on (given canvas h.cells h.labels) (print x y text choice))
+    (after_is : after ≡ (state_after (given canvas h.cells h.labels) (print x y text choice)).canvas) where
   pub printed : {r : ℕ} {words labels : List ℕ} → labels ≡ (state_after (given canvas h.cells h.labels) (print x y text choice)).labels
-      → Finished h called r words → Printed h (print x y text choice) r words labels
+      → Finished h answer after r words → Printed h (print x y text choice) r words labels
   unfolding host_after
   printed e w = record {
-    answered = answered h (print x y text choice) loaded is w;
+    answered = answered h (print x y text choice) loaded answer_is after_is w;
     cells_left = cells_stay (state_of h) x y text choice;
     labels_left = e ∙ ap (λ (k : Canvas). (state_after (given k h.cells h.labels) (print x y text choice)).labels) loaded;
   }
 
 -- ---- a render: the screen and both numbers
-module _ (h : Host) (area : Area) (screen : List ℕ) {canvas : Canvas} {called : Called} (loaded : canvas ≡ canvas_of h.words)
-    (is : called ≡ called_on (given canvas h.cells h.labels) (render area screen)) where
-  pub rendered : (before cells_before : ℕ) {r : ℕ} {words cells screen_after : List ℕ} {painted label_cells : ℕ}
-      → (cells ≡ (state_after (given canvas h.cells h.labels) (render area screen)).cells) × (screen_after ≡ screen_on (given canvas h.cells h.labels) area screen)
-      → label_cells ≡ label_cells_after cells_before called.answer → Finished h called r words → painted ≡ painted_after before called.answer
-      → Rendered h area screen before cells_before r words cells screen_after painted label_cells
-  rendered before cells_before e l w p = record {
-    drawn = drawn h (render area screen) loaded is before tt e.0 w p;
-    screen_left = e.1 ∙ ap (λ (k : Canvas). screen_on (given k h.cells h.labels) area screen) loaded;
-    label_cells_left = l ∙ ap (λ (d : Called). label_cells_after cells_before d.answer) (called_on_lem h (render area screen) loaded is);
+module _ (h : Host) (area : Area) (screen : List ℕ) {canvas after : Canvas} {answer : Answer} (loaded : canvas ≡ canvas_of h.words)
+    (answer_is : answer ≡ answer_on (given canvas h.cells h.labels) (render area screen))
+    (after_is : after ≡ (state_after (given canvas h.cells h.labels) (render area screen)).canvas) where
+  pub shown : (before cells_before : ℕ) {r : ℕ} {words cells screen_after : List ℕ} {number label_cells : ℕ}
+      → cells ≡ (state_after (given canvas h.cells h.labels) (render area screen)).cells → screen_after ≡ screen_on (given canvas h.cells h.labels) area screen
+      → Finished h answer after r words → number ≡ painted_after before answer → label_cells ≡ label_cells_after cells_before answer
+      → Rendered h area screen before cells_before r words cells screen_after number label_cells
+  shown before cells_before e f w p l = record {
+    drawn = drawn h (render area screen) loaded answer_is after_is before tt e w p;
+    screen_left = f ∙ ap (λ (k : Canvas). screen_on (given k h.cells h.labels) area screen) loaded;
+    label_cells_left = l ∙ ap (label_cells_after cells_before) (answer-lem h (render area screen) loaded answer_is after_is);
   }
 
 -- ---- an opening
@@ -135,12 +157,16 @@ module _ (h : Host) (o : Opening) where
   unfolding host_open_refusal host_opened all_words
   opened-short e = record { status = rw e; words_left = rw e; cells_left = rw e; labels_left = refl }
 
-  pub opened-long : {called : Called} {r : ℕ} {words cells : List ℕ} → short_words h.words ≡ false → called ≡ open_called o h.cells (length h.labels)
-      → cells ≡ open_cells o h.cells (length h.labels) → words ≡ all_words h.words called.canvas → r ≡ status_of called.answer → Opened h o r words cells
+  pub opened-long : (called : Result Canvas Refusal) {r : ℕ} {words cells : List ℕ} → short_words h.words ≡ false → opened called ≡ open_called o h.cells (length h.labels)
+      → cells ≡ open_cells o h.cells (length h.labels) → words ≡ all_words h.words (opened called).canvas → r ≡ number_in called → Opened h o r words cells
   unfolding host_open_refusal host_opened
-  opened-long e is cells_is words-is status-is = record {
-    status = rw e (status-is ∙ ap (λ (d : Called). status_of d.answer) is ∙ open-status (open_refusal o (length h.cells) (length h.labels)));
-    words_left = words-is ∙ ap (λ (d : Called). all_words h.words d.canvas) is;
-    cells_left = rw e cells_is;
+  opened-long called e is cells-lem words-lem r-lem = record {
+    status = rw e (r-lem ∙ numbered called ∙ ap (λ (d : Called). status_of d.answer) is ∙ open-status (open_refusal o (length h.cells) (length h.labels)));
+    words_left = words-lem ∙ ap (λ (d : Called). all_words h.words d.canvas) is;
+    cells_left = rw e cells-lem;
     labels_left = refl;
   }
+    where
+      numbered : (called : Result Canvas Refusal) → number_in called ≡ status_of (opened called).answer
+      numbered (Ok canvas) = refl
+      numbered (Err refusal) = refl

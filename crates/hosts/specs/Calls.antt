@@ -1,10 +1,8 @@
 -- What the contracts of the calls say: the answer, and every lent list and number after the call, by the canvas that the words mean (crate words).
-use Rattle.std.specs.Prelude.{◌≡◌, cond, List, ℕ, eqb, Float}
+use Rattle.std.specs.Prelude.{◌≡◌, cond, List, ℕ, eqb, Float, Option, Some, None}
 use Rattle.ledger.specs.Calls.{Opening, Call, render}
 use Rattle.ledger.specs.Model.{refusal_on}
 use Rattle.ledger.specs.Outcomes.{answer_on, screen_on}
-use Rattle.ledger.specs.declared.labels.Choice.{Choice}
-use Rattle.ledger.specs.declared.labels.Choice.TheVariants.{Nothing, Colour}
 use Rattle.ledger.specs.declared.screen.Area.{Area}
 use Rattle.words.specs.Words.{painted_after, label_cells_after}
 use Rattle.words.specs.Hosted.{Host, state_of, host_after, host_open_refusal, host_opened}
@@ -63,5 +61,5 @@ pub record Opened (h : Host) (o : Opening) (r : ℕ) (words cells : List ℕ) : 
 abbrev pub no_colour : ℕ
 no_colour = 4294967295
 
-abbrev pub choice_of : ℕ → Choice
-choice_of colour = cond (eqb colour no_colour) Nothing (Colour colour)
+abbrev pub choice_of : ℕ → Option ℕ
+choice_of colour = cond (eqb colour no_colour) None (Some colour)

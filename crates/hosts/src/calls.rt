@@ -3,18 +3,24 @@
 // it was, but a refused opening makes the words 0; `Hosted` of crate words says what a list of them does.
 ghost use Rattle.std.specs.Prelude.{◌≡◌};
 ghost use Rattle.ledger.specs.Calls.{draw, points, dot, layer, marker, print};
+ghost use Rattle.refusals.specs.Refusals.{number_in};
+ghost use Rattle.canvas.specs.Results.{painted, rendered};
 ghost use Rattle.flat.specs.Flat.{pairs_of};
+ghost use Rattle.words.specs.Words.{painted_after, label_cells_after, words_left};
 ghost use Rattle.words.specs.Hosted.{host, TypedOpening, TypedCall};
 ghost use Rattle.hosts.specs.Calls.{layout_number, opening_with, Opened, Marked, Drawn, Printed, Rendered, choice_of};
 
-use crate::draws::{draw_circle, draw_filled_line, draw_line};
-use canvas::calls::{dot, draw, layer, marker, open, print, render};
-use flat::points_flat;
-use ledger::labels::Choice;
+use canvas::calls::{
+    Rendered as Counts, dot, draw, layer, marker, open, print, render, zero_canvas,
+};
+use flat::Flat;
 use ledger::screen::Area;
+use ledger::state::Canvas;
+use pairs::points::points;
+use refusals::refusal::Refusal;
 use shapes::painters::Shape;
 use walk::clip::{Bounds, Segment};
-use words::{finish, finish_painted, is_short, keep_all, label_cells_after, load, status};
+use words::{finish, is_short, keep_all, load};
 
 // What a caller compares with the number of the header that it was built against.
 #[unsafe(no_mangle)]
@@ -52,7 +58,7 @@ pub extern "C" fn mossbuckle_open(
         bottom,
         top,
     };
-    let called = open(
+    let opened = open(
         columns,
         rows,
         bounds,
@@ -62,13 +68,36 @@ pub extern "C" fn mossbuckle_open(
         &mut *cells,
         labels,
     );
-    let opened = called.canvas;
-    let answer = called.answer;
-    keep_all(&mut *canvas, opened);
-    status(answer)
+    match opened {
+        Ok(c) => {
+            keep_all(&mut *canvas, c);
+            0
+        }
+        Err(refusal) => {
+            keep_all(&mut *canvas, zero_canvas());
+            u8::from(refusal)
+        }
+    }
 }
 
 // ---- draws and dots: on 0 the painted number is set
+
+// The outcome of a call that paints.
+fn finish_painted(
+    words: &mut [u64],
+    canvas: Canvas,
+    called: Result<u64, Refusal>,
+    number: &mut u64,
+) -> u8
+    ensures status { result ≡ number_in called }
+    ensures words { words.new ≡ words_left words.old called canvas }
+    ensures painted { number.new ≡ painted_after number.old (painted called) }
+{
+    if let Ok(n) = called {
+        *number = n;
+    }
+    finish(&mut *words, canvas, called)
+}
 
 #[unsafe(no_mangle)]
 pub extern "C" fn mossbuckle_line(
@@ -86,10 +115,10 @@ pub extern "C" fn mossbuckle_line(
         (draw (Shape.Line (record { x1 = x1; y1 = y1; x2 = x2; y2 = y2 })) colour)
         painted.old result canvas.new cells.new painted.new }
 {
-    let s = Segment { x1, y1, x2, y2 };
-    let c = load(&*canvas);
-    let called = draw_line(c, &mut *cells, labels, s, colour);
-    finish_painted(&mut *canvas, called, &mut *painted)
+    let shape = Shape::Line(Segment { x1, y1, x2, y2 });
+    let mut c = load(&*canvas);
+    let called = draw(&mut c, &mut *cells, labels, shape, colour);
+    finish_painted(&mut *canvas, c, called, &mut *painted)
 }
 
 #[unsafe(no_mangle)]
@@ -109,10 +138,10 @@ pub extern "C" fn mossbuckle_filled_line(
         (draw (Shape.FilledLine (record { x1 = x1; y1 = y1; x2 = x2; y2 = y2 }) fill_to_y) colour)
         painted.old result canvas.new cells.new painted.new }
 {
-    let s = Segment { x1, y1, x2, y2 };
-    let c = load(&*canvas);
-    let called = draw_filled_line(c, &mut *cells, labels, s, fill_to_y, colour);
-    finish_painted(&mut *canvas, called, &mut *painted)
+    let shape = Shape::FilledLine(Segment { x1, y1, x2, y2 }, fill_to_y);
+    let mut c = load(&*canvas);
+    let called = draw(&mut c, &mut *cells, labels, shape, colour);
+    finish_painted(&mut *canvas, c, called, &mut *painted)
 }
 
 #[unsafe(no_mangle)]
@@ -131,9 +160,9 @@ pub extern "C" fn mossbuckle_rectangle(
         painted.old result canvas.new cells.new painted.new }
 {
     let shape = Shape::Rectangle(x, y, width, height);
-    let c = load(&*canvas);
-    let called = draw(c, &mut *cells, labels, shape, colour);
-    finish_painted(&mut *canvas, called, &mut *painted)
+    let mut c = load(&*canvas);
+    let called = draw(&mut c, &mut *cells, labels, shape, colour);
+    finish_painted(&mut *canvas, c, called, &mut *painted)
 }
 
 #[unsafe(no_mangle)]
@@ -150,9 +179,10 @@ pub extern "C" fn mossbuckle_circle(
     ensures { Drawn (host canvas.old cells.old labels.now) (draw (Shape.Circle x y radius) colour)
         painted.old result canvas.new cells.new painted.new }
 {
-    let c = load(&*canvas);
-    let called = draw_circle(c, &mut *cells, labels, x, y, radius, colour);
-    finish_painted(&mut *canvas, called, &mut *painted)
+    let shape = Shape::Circle(x, y, radius);
+    let mut c = load(&*canvas);
+    let called = draw(&mut c, &mut *cells, labels, shape, colour);
+    finish_painted(&mut *canvas, c, called, &mut *painted)
 }
 
 // Points at x and y by turns; a last coordinate by itself is not looked at.
@@ -168,9 +198,9 @@ pub extern "C" fn mossbuckle_points(
     ensures { Drawn (host canvas.old cells.old labels.now) (points (pairs_of coords.now) colour)
         painted.old result canvas.new cells.new painted.new }
 {
-    let c = load(&*canvas);
-    let called = points_flat(c, &mut *cells, labels, coords, colour);
-    finish_painted(&mut *canvas, called, &mut *painted)
+    let mut c = load(&*canvas);
+    let called = points(&mut c, &mut *cells, labels, Flat { coords }, colour);
+    finish_painted(&mut *canvas, c, called, &mut *painted)
 }
 
 #[unsafe(no_mangle)]
@@ -186,9 +216,9 @@ pub extern "C" fn mossbuckle_dot(
     ensures { Drawn (host canvas.old cells.old labels.now) (dot column row colour)
         painted.old result canvas.new cells.new painted.new }
 {
-    let c = load(&*canvas);
-    let called = dot(c, &mut *cells, labels, column, row, colour);
-    finish_painted(&mut *canvas, called, &mut *painted)
+    let mut c = load(&*canvas);
+    let called = dot(&mut c, &mut *cells, labels, column, row, colour);
+    finish_painted(&mut *canvas, c, called, &mut *painted)
 }
 
 // ---- layers and labels
@@ -198,9 +228,9 @@ pub extern "C" fn mossbuckle_layer(canvas: &mut [u64], cells: &mut [u32], labels
     ensures { Marked (host canvas.old cells.old labels.now) layer
         result canvas.new cells.new }
 {
-    let c = load(&*canvas);
-    let called = layer(c, &mut *cells, labels);
-    finish(&mut *canvas, called)
+    let mut c = load(&*canvas);
+    let called = layer(&mut c, &mut *cells, labels);
+    finish(&mut *canvas, c, called)
 }
 
 #[unsafe(no_mangle)]
@@ -215,19 +245,19 @@ pub extern "C" fn mossbuckle_marker(
         result canvas.new cells.new }
     ensures typed_call { TypedCall (marker number character) }
 {
-    let c = load(&*canvas);
-    let called = marker(c, &mut *cells, labels, number, character);
-    finish(&mut *canvas, called)
+    let mut c = load(&*canvas);
+    let called = marker(&mut c, &mut *cells, labels, number, character);
+    finish(&mut *canvas, c, called)
 }
 
 // 'Colour or none': FFFFFFFF, which is no colour, is none.
-fn choice_of(colour: u32) -> Choice
+fn choice_of(colour: u32) -> Option<u32>
     ensures { result ≡ choice_of colour }
 {
     if colour == 4294967295 {
-        return Choice::Nothing;
+        return None;
     }
-    Choice::Colour(colour)
+    Some(colour)
 }
 
 #[unsafe(no_mangle)]
@@ -243,13 +273,33 @@ pub extern "C" fn mossbuckle_print(
     ensures { Printed (host canvas.old cells.now labels.old)
         (print x y text.now (choice_of colour)) result canvas.new labels.new }
 {
-    let c = load(&*canvas);
+    let mut c = load(&*canvas);
     let choice = choice_of(colour);
-    let called = print(c, cells, &mut *labels, x, y, text, choice);
-    finish(&mut *canvas, called)
+    let called = print(&mut c, cells, &mut *labels, x, y, text, choice);
+    finish(&mut *canvas, c, called)
 }
 
 // ---- the screen
+
+// The outcome of a render.
+fn finish_rendered(
+    words: &mut [u64],
+    canvas: Canvas,
+    called: Result<Counts, Refusal>,
+    painted: &mut u64,
+    label_cells: &mut u32,
+) -> u8
+    ensures status { result ≡ number_in called }
+    ensures words { words.new ≡ words_left words.old called canvas }
+    ensures painted { painted.new ≡ painted_after painted.old (rendered called) }
+    ensures label_cells { label_cells.new ≡ label_cells_after label_cells.old (rendered called) }
+{
+    if let Ok(counts) = called {
+        *painted = counts.painted;
+        *label_cells = counts.label_cells;
+    }
+    finish(&mut *words, canvas, called)
+}
 
 // The canvas laid on a screen of columns by rows cells, with its area's corner at x and y. On 0 the
 // painted number and the label cells are set.
@@ -270,16 +320,13 @@ pub extern "C" fn mossbuckle_render(
         (record { columns = columns; rows = rows; x = x; y = y }) screen.old painted.old label_cells.old
         result canvas.new cells.new screen.new painted.new label_cells.new }
 {
-    let c = load(&*canvas);
+    let mut c = load(&*canvas);
     let area = Area {
         columns,
         rows,
         x,
         y,
     };
-    let called = render(c, &mut *cells, labels, area, &mut *screen);
-    let answer = called.answer;
-    let before = *label_cells;
-    *label_cells = label_cells_after(before, answer);
-    finish_painted(&mut *canvas, called, &mut *painted)
+    let called = render(&mut c, &mut *cells, labels, area, &mut *screen);
+    finish_rendered(&mut *canvas, c, called, &mut *painted, &mut *label_cells)
 }

@@ -4,4 +4,3 @@
 #![tactic(auto)]
 
 pub mod calls; // calls.rt: the calls
-mod draws; // draws.rt: a line, a filled line and a circle, each drawn by its own painter

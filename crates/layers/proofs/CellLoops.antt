@@ -2,13 +2,14 @@
 use Prim.Native.Nat.{ℕ, zero, suc, ◌+◌, ◌*◌, ◌/◌, ◌%◌, ◌≤◌, ◌<◌, min}
 use mathlib.Core.Path.{◌≡◌, refl, sym, ap, subst, ◌∙◌}
 use mathlib.Core.Bool.{Bool, true, false}
-use mathlib.Core.List.{List}
+use mathlib.Core.List.{List, ◌++◌}
 use native.Mathlib.Numerals.{add-one, unary_clauses}
 use native.Mathlib.Omega.{arith}
 use lib.Dec.{ltb}
-use lib.ListN.{length, get_or, set}
+use lib.ListN.{length, get_or, set, take, drop, replicate, length-take}
 use lib.Seq.{ext_get_or, set-get_or}
 use borrow.Author.Tests.{lt-ltb, ltb-true, ltb-false}
+use Rattle.std.proofs.lemmas.List.Edits.{fill_none, fill_more}
 use Rattle.grids.specs.Cells.{words_at, put_words, cell_at, put_cell, do_cell, do_four, blank_cell, each_cell}
 use Rattle.grids.specs.declared.cells.Cell.{Cell}
 use Rattle.grids.proofs.CellStore.{word-put-other, length-each, each-past, each_in}
@@ -156,14 +157,11 @@ unfolding put_cell put_words cell_at words_at
 put-own cells i h = simp (lt-ltb i (length cells / 5) h, set-get_or)
 
 -- ---- blanking by words
-abbrev pub zeroed : List ℕ → ℕ → List ℕ
+abbrev zeroed : List ℕ → ℕ → List ℕ
 zeroed cells zero = cells
 zeroed cells (suc k) = set (zeroed cells k) k 0
 
-pub zeroed-next : (start : List ℕ) (k : ℕ) {cells after : List ℕ} → cells ≡ zeroed start k → after ≡ set cells k 0 → after ≡ zeroed start (k + 1)
-zeroed-next start k {cells} {after} before put = rw (add-one, put, before)
-
-pub zeroed-cells : (cells : List ℕ) (n : ℕ) → n ≤ length cells / 5 → zeroed cells (n * 5) ≡ each_cell (λ c. blank_cell) cells n
+zeroed-cells : (cells : List ℕ) (n : ℕ) → n ≤ length cells / 5 → zeroed cells (n * 5) ≡ each_cell (λ c. blank_cell) cells n
 unfolding put_cell put_words
 zeroed-cells cells zero h = refl
 zeroed-cells cells (suc k) h =
@@ -174,3 +172,16 @@ zeroed-cells cells (suc k) h =
     let e₃ : k * 5 + 3 ≡ suc (suc (suc (k * 5))) = omega arith in
     let e₄ : k * 5 + 4 ≡ suc (suc (suc (suc (k * 5)))) = omega arith in
     rw (five, zeroed-cells cells k (omega arith), lt-ltb k (length before / 5) (rw (length-each (λ c. blank_cell) cells k) (omega arith)), e₁, e₂, e₃, e₄)
+
+zeroed-fill : (cells : List ℕ) (k : ℕ) → k ≤ length cells → zeroed cells k ≡ replicate k 0 ++ drop k cells
+zeroed-fill cells zero h = fill_none cells 0
+zeroed-fill cells (suc k) h = rw (zeroed-fill cells k (omega arith)) (rw add-one at (fill_more k 0 cells (omega arith)))
+
+-- the words of the cells that the store has, filled with 0
+pub blanked : (cells : List ℕ) (n : ℕ) {count : ℕ} {filled : List ℕ} → count ≡ min n (length cells / 5) → filled ≡ replicate (length (take (count * 5) cells)) 0
+    → filled ++ drop (count * 5) cells ≡ each_cell (λ c. blank_cell) cells n
+blanked cells n {count} {filled} held fill =
+    let k : ℕ = min n (length cells / 5) in
+    let size : length (take (k * 5) cells) ≡ k * 5 = simp length-take (omega arith) in
+    rw (fill, held, size)
+    (sym (zeroed-fill cells (k * 5) (omega arith)) ∙ zeroed-cells cells k (omega arith) ∙ each-held (λ c. blank_cell) cells n)

@@ -1,7 +1,7 @@
 -- A cell saved and cleared by its grid's two words. One without ink stays as it is: 'A layer sets nothing in a cell without its dots.' One of a grid that sets no background goes by the word of its symbol.
 use Prim.Native.Nat.{ℕ, suc, ◌+◌, ◌*◌, ◌/◌, ◌%◌, ◌≤◌, ◌<◌}
 use mathlib.Core.Path.{◌≡◌, refl, sym, ap, ◌∙◌}
-use mathlib.Core.Bool.{Bool, true, false, ◌&&◌, ◌||◌}
+use mathlib.Core.Bool.{Bool, true, false, ◌&&◌}
 use mathlib.Core.List.{List}
 use native.Mathlib.Nat.{zero-mod}
 use native.Mathlib.Omega.{arith}
@@ -10,7 +10,7 @@ use lib.ListN.{length, get_or, set}
 use lib.Seq.{set-get_or, get_or-set_other}
 use borrow.Author.Tests.{lt-ltb, eqb-true, ne_eqb}
 use Rattle.grids.specs.Lists.{over}
-use Rattle.grids.specs.Markers.{dot_size, is_half_block, is_block}
+use Rattle.grids.specs.Markers.{is_half_block, is_block}
 use Rattle.grids.specs.Symbols.{pattern_count, symbol_of}
 use Rattle.grids.specs.Dots.{sets_nothing, half_block_cell}
 use Rattle.grids.specs.Cells.{words_at, put_words, cell_at, put_cell, do_cell, do_four}
@@ -20,6 +20,7 @@ use Rattle.grids.specs.declared.cells.Cell.{Cell}
 use Rattle.grids.specs.declared.layer.LayerCell.{LayerCell}
 use Rattle.grids.proofs.Cases.{either}
 use Rattle.layers.proofs.CellLoops.{words_of, put-own}
+use Rattle.grids.specs.declared.markers.Marker.{Marker}
 
 both : (s t : Bool) → s && t ≡ true → (s ≡ true) × (t ≡ true)
 both true t e = (refl, e)
@@ -41,12 +42,12 @@ module _ (cells : List ℕ) (i : ℕ) (held : i < length cells / 5) where
   ink-at = ap (λ (c : Cell). c.ink) (words_of cells i held)
 
   -- the picture's words are not read
-  pub layer-by-words : (marker character : ℕ) → layer_cell marker character (record { symbol = 0; foreground = 0; background = 0; pattern = get_or cells (i * 5 + 3) 0; ink = get_or cells (i * 5 + 4) 0 }) ≡ layer_cell marker character (cell_at cells i)
+  pub layer-by-words : (marker : Marker) (character symbol foreground background : ℕ) → layer_cell marker character (record { symbol = symbol; foreground = foreground; background = background; pattern = get_or cells (i * 5 + 3) 0; ink = get_or cells (i * 5 + 4) 0 }) ≡ layer_cell marker character (cell_at cells i)
   unfolding layer_cell
-  layer-by-words marker character = rw (pattern-at, ink-at)
+  layer-by-words marker character symbol foreground background = rw (pattern-at, ink-at)
 
 -- ---- without ink
-module _ (marker character : ℕ) where
+module _ (marker : Marker) (character : ℕ) where
   nothing-set : (c : Cell) → c.pattern ≡ 0 → c.ink ≡ 0 → layer_cell marker character c ≡ sets_nothing
   unfolding layer_cell half_block_cell
   nothing-set c p q = rw (p, q, zero-mod (pattern_count marker)) (either (λ (l : LayerCell). l ≡ sets_nothing) (is_half_block marker) refl refl)
@@ -79,32 +80,7 @@ module _ (marker character : ℕ) where
       )
 
 -- ---- by the word of the symbol
--- a grid with so many patterns, which sets no background: neither HalfBlock nor Block
-pub record Plain (marker count : ℕ) : Type 0 where
-  pub whole : is_half_block marker ≡ false
-  pub no-background : is_block marker ≡ false
-  pub patterns : pattern_count marker ≡ count
-
-pub plain-braille : Plain 1 256
-unfolding pattern_count dot_size
-plain-braille = record { whole = refl; no-background = refl; patterns = refl }
-
-plain-dot : Plain 2 2
-unfolding pattern_count dot_size
-plain-dot = record { whole = refl; no-background = refl; patterns = refl }
-
-plain-custom : Plain 8 2
-unfolding pattern_count dot_size
-plain-custom = record { whole = refl; no-background = refl; patterns = refl }
-
-pub plain-character : (marker : ℕ) → (eqb marker 2 || eqb marker 8) ≡ true → Plain marker 2
-plain-character marker e = go (eqb marker 2) refl e
-  where
-    go : (t : Bool) → eqb marker 2 ≡ t → (t || eqb marker 8) ≡ true → Plain marker 2
-    go true p q = rw (eqb-true marker 2 p) plain-dot
-    go false p q = rw (eqb-true marker 8 q) plain-custom
-
--- a cell in which such a grid has dots, merged
+-- a cell in which a grid without backgrounds has dots, merged
 abbrev pub with_word : ℕ → Cell → Cell
 with_word word c = record { symbol = word; foreground = over c.ink c.foreground; background = c.background; pattern = 0; ink = 0 }
 
@@ -120,12 +96,12 @@ word-laid cells i word held =
     let same : set s₂ (i * 5 + 2) (get_or cells (i * 5 + 2) 0) ≡ s₂ = rw kept at (set-get_or s₂ (i * 5 + 2) 0) in
     simp (lt-ltb i (length cells / 5) held, same)
 
-module _ (marker character count : ℕ) (plain : Plain marker count) (cells : List ℕ) (i : ℕ) (held : i < length cells / 5) where
+module _ (marker : Marker) (character count : ℕ) (whole : is_half_block marker ≡ false) (no-background : is_block marker ≡ false) (patterns : pattern_count marker ≡ count) (cells : List ℕ) (i : ℕ) (held : i < length cells / 5) where
   pub merged-nothing : get_or cells (i * 5 + 3) 0 % count ≡ 0 → do_cell cleared_cell cells i ≡ do_cell (merged_cell marker character) cells i
   unfolding saved_cell layer_cell
-  merged-nothing none = rw (plain.whole, plain.patterns, pattern-at cells i held, none)
+  merged-nothing none = rw (whole, patterns, pattern-at cells i held, none)
 
   pub merged-word : (word : ℕ) → (get_or cells (i * 5 + 3) 0 % count ≡ 0 → ⊥) → word ≡ suc (symbol_of marker character (get_or cells (i * 5 + 3) 0 % count)) →
       do_cell (with_word word) cells i ≡ do_cell (merged_cell marker character) cells i
   unfolding saved_cell layer_cell
-  merged-word word some e = rw (plain.whole, plain.no-background, plain.patterns, pattern-at cells i held, ne_eqb _ _ some, e)
+  merged-word word some e = rw (whole, no-background, patterns, pattern-at cells i held, ne_eqb _ _ some, e)

@@ -1,97 +1,71 @@
 // What the grid being drawn sets in the picture, and the loops over a canvas' cells: save, reset, both
 // for a finished layer, and blank (the grids' `save` and `reset` of src/canvas.rs in ratatui-widgets).
-// In a LayerCell, as in the store, a word of 0 sets nothing and value + 1 sets a value.
+// In a LayerCell, as in the store, a word of 0 sets nothing and value + 1 sets a value. A marker and its
+// character stand side by side, as in a Canvas: a struct of both would be taken apart in every contract.
 #![tactic(auto)]
 
-ghost use Rattle.std.specs.Prelude.{◌≡◌, true, ◌&&◌, ◌||◌, List, ℕ, suc, ◌+◌, ◌*◌, ◌/◌, ◌%◌, ◌^◌, ◌≤◌, ◌<◌, min, eqb, length};
+ghost use Rattle.std.specs.Prelude.{◌≡◌, false, ◌&&◌, List, ℕ, suc, ◌+◌, ◌*◌, ◌/◌, ◌%◌, ◌^◌, ◌≤◌, ◌<◌, min, eqb, length};
 ghost use Rattle.grids.specs.Lists.{over};
-ghost use Rattle.grids.specs.Symbols.{symbol_of};
+ghost use Rattle.grids.specs.declared.markers.Marker.{Marker};
+ghost use Rattle.grids.specs.Markers.{is_half_block, is_block};
+ghost use Rattle.grids.specs.Symbols.{braille_symbol, pattern_count, symbol_of};
 ghost use Rattle.grids.specs.Dots.{half_block_cell};
 ghost use Rattle.grids.specs.Cells.{cell_at, do_cell, do_four, each_cell};
 ghost use Rattle.grids.specs.Layer.{pattern_sets, layer_cell, laid_over, saved_cell, cleared_cell, merged_cell, is_bare, save_of, reset_of, blank_of};
 
 use grids::cells::{Cell, load, store};
 use grids::layer::LayerCell;
-use grids::painting::cell_count;
+use grids::markers::Marker;
+use grids::painting::{cell_count, cells_held};
 use grids::symbols::{braille_symbol, read_pattern, symbol};
 
 // Of a HalfBlock grid, by the inks of the two halves.
+#[tactic(auto, unfolding(grids::specs::Dots::half_block_cell))]
 fn half_block_cell(upper: u32, lower: u32) -> LayerCell
     ensures { result ≡ half_block_cell upper lower }
 {
-    if upper == 0 {
-        if lower == 0 {
-            return LayerCell {
-                symbol: 0,
-                foreground: 0,
-                background: 0,
-            };
-        }
-        return LayerCell {
-            symbol: 0x2585,
-            foreground: lower,
-            background: 0,
-        };
-    }
-    if lower == 0 {
-        return LayerCell {
-            symbol: 0x2581,
-            foreground: upper,
-            background: 0,
-        };
-    }
-    if upper == lower {
-        return LayerCell {
-            symbol: 0x2589,
-            foreground: upper,
-            background: lower,
-        };
-    }
+    let (symbol, foreground, background) = match (upper, lower) {
+        (0, 0) => (0, 0, 0),
+        (0, _) => (0x2585, lower, 0),
+        (_, 0) => (0x2581, upper, 0),
+        _ if upper == lower => (0x2589, upper, lower),
+        _ => (0x2581, upper, lower),
+    };
     LayerCell {
-        symbol: 0x2581,
-        foreground: upper,
-        background: lower,
+        symbol,
+        foreground,
+        background,
     }
 }
 
 // Of any other grid, by its pattern and ink.
-fn pattern_cell(marker: u8, character: u32, pattern: u32, ink: u32) -> LayerCell
+fn pattern_cell(marker: Marker, character: u32, pattern: u32, ink: u32) -> LayerCell
     ensures { result ≡ pattern_sets marker (character % 2 ^ 21) pattern ink }
 {
     if pattern == 0 {
-        return LayerCell {
-            symbol: 0,
-            foreground: 0,
-            background: 0,
-        };
-    }
-    let s = symbol(marker, character, pattern);
-    if marker == 3 {
-        return LayerCell {
-            symbol: s + 1,
-            foreground: ink,
-            background: ink,
-        };
+        return LayerCell::default();
     }
     LayerCell {
-        symbol: s + 1,
+        symbol: symbol(marker, character, pattern) + 1,
         foreground: ink,
-        background: 0,
+        background: if marker == Marker::Block { ink } else { 0 },
     }
 }
 
 // What the grid sets in a cell.
-pub fn layer_cell(marker: u8, character: u32, c: Cell) -> LayerCell
+#[tactic(auto, unfolding(grids::specs::Layer::layer_cell))]
+pub fn layer_cell(marker: Marker, character: u32, c: Cell) -> LayerCell
     ensures { result ≡ layer_cell marker (character % 2 ^ 21) c }
 {
-    if marker == 5 {
+    if marker == Marker::HalfBlock {
         return half_block_cell(c.pattern, c.ink);
     }
     let pattern = read_pattern(marker, c.pattern);
     pattern_cell(marker, character, pattern, c.ink)
 }
 
-// A word over another: what the upper one sets, else what the lower one does.
+// A word over another: what the upper one sets, else what the lower one does. No method of the library
+// does this with numbers, and an Option of a word would need a second one in the store.
 fn over_word(upper: u32, lower: u32) -> u32
     ensures { result ≡ over upper lower }
 {
@@ -99,7 +73,8 @@ fn over_word(upper: u32, lower: u32) -> u32
 }
 
 // A cell with its grid laid over its picture.
-fn saved_cell(marker: u8, character: u32, c: Cell) -> Cell
+#[tactic(auto, unfolding(grids::specs::Layer::saved_cell))]
+fn saved_cell(marker: Marker, character: u32, c: Cell) -> Cell
     ensures { result ≡ saved_cell marker (character % 2 ^ 21) c }
 {
     let l = layer_cell(marker, character, c);
@@ -110,19 +85,12 @@ fn saved_cell(marker: u8, character: u32, c: Cell) -> Cell
         symbol,
         foreground,
         background,
-        pattern: c.pattern,
-        ink: c.ink,
+        ..c
     }
 }
 
-// How many of the canvas' cells the store has whole: a loop over so many needs no test of its own.
-fn held(cells: &[u32], columns: u16, rows: u16) -> usize
-    ensures { result ≡ min (columns * rows) (length cells.now / 5) }
-{
-    let n = cell_count(columns, rows);
-    let whole = cells.len() / 5;
-    if n < whole { n } else { whole }
-}
+// A cell's words are reached by its index, here and below: of the slice that chunks_exact_mut and
+// as_chunks_mut lend in parts, the library does not say what it ends as.
 
 // The grid of a cell cleared: no ink stays. The picture's words are not touched.
 fn clear_at(cells: &mut [u32], i: usize)
@@ -150,7 +118,8 @@ fn lay_at(cells: &mut [u32], i: usize, l: LayerCell)
     cells[k + 4] = 0;
 }
 
-// Whether the grid holds nothing in a cell.
+// Whether the grid holds nothing in a cell: by `&`, since a branch for each word would cost more than
+// reading it.
 fn is_bare(cells: &[u32], i: usize) -> bool
     requires { i < length cells.now / 5 }
     ensures { result ≡ is_bare (cell_at cells.now i) }
@@ -173,20 +142,18 @@ fn are_bare(cells: &[u32], i: usize) -> bool
 }
 
 // A cell merged: saved, and its grid cleared.
-fn merge_at(cells: &mut [u32], i: usize, marker: u8, character: u32)
+fn merge_at(cells: &mut [u32], i: usize, marker: Marker, character: u32)
     requires { i < length cells.old / 5 }
     ensures { cells.new ≡ do_cell (merged_cell marker (character % 2 ^ 21)) cells.old i }
 {
     let k = i * 5;
     let c = Cell {
-        symbol: 0,
-        foreground: 0,
-        background: 0,
         pattern: cells[k + 3],
         ink: cells[k + 4],
+        ..Cell::default()
     };
     let l = layer_cell(marker, character, c);
-    lay_at(&mut *cells, i, l);
+    lay_at(cells, i, l);
 }
 
 // A cell whose grid sets a symbol, by its word, and no background: merged.
@@ -203,118 +170,104 @@ fn lay_word(cells: &mut [u32], i: usize, word: u32)
     cells[first + 4] = 0;
 }
 
-// A cell of a Braille grid merged.
-fn merge_braille(cells: &mut [u32], i: usize)
-    requires { i < length cells.old / 5 }
-    ensures { (character : ℕ) → cells.new ≡ do_cell (merged_cell 1 character) cells.old i }
+// The word of a Braille pattern's symbol.
+fn braille_word(pattern: u32) -> u32
+    ensures { result ≡ suc (braille_symbol pattern) }
 {
-    let pattern = cells[i * 5 + 3] % 256;
-    if pattern == 0 {
-        clear_at(&mut *cells, i);
-        return;
-    }
-    let word = braille_symbol(pattern) + 1;
-    lay_word(&mut *cells, i, word);
+    braille_symbol(pattern) + 1
 }
 
-// A cell of a Dot or Custom grid merged, by the word of its one symbol.
-fn merge_plain(cells: &mut [u32], i: usize, word: u32)
-    requires { i < length cells.old / 5 }
-    ensures { (marker character : ℕ) → (eqb marker 2 || eqb marker 8) ≡ true → word ≡ suc (symbol_of marker character 1)
+// A cell of a grid of so many patterns that sets no background merged: by `word_of`, the word of a
+// pattern's symbol.
+fn merge_symbol<const PATTERNS: u32, F: Fn(u32) -> u32>(cells: &mut [u32], i: usize, word_of: &F)
+    requires held { i < length cells.old / 5 }
+    requires some { 0 < PATTERNS }
+    requires can { F.IsAlwaysCallable word_of.now }
+    ensures { (marker : Marker) (character : ℕ) → is_half_block marker ≡ false → is_block marker ≡ false → pattern_count marker ≡ PATTERNS
+        → ((pattern word : ℕ) → pattern < PATTERNS → F.post word_of.now pattern word → word ≡ suc (symbol_of marker character pattern))
         → cells.new ≡ do_cell (merged_cell marker character) cells.old i }
 {
-    let pattern = cells[i * 5 + 3] % 2;
+    let pattern = cells[i * 5 + 3] % PATTERNS;
     if pattern == 0 {
-        clear_at(&mut *cells, i);
-        return;
+        clear_at(cells, i);
+    } else {
+        let word = word_of(pattern);
+        lay_word(cells, i, word);
     }
-    lay_word(&mut *cells, i, word);
 }
 
-// Four cells of a Braille grid merged.
-fn merge_four_braille(cells: &mut [u32], i: usize)
-    requires { i + 4 ≤ length cells.old / 5 }
-    ensures { (character : ℕ) → cells.new ≡ do_four (merged_cell 1 character) cells.old i }
-{
-    merge_braille(&mut *cells, i);
-    merge_braille(&mut *cells, i + 1);
-    merge_braille(&mut *cells, i + 2);
-    merge_braille(&mut *cells, i + 3);
-}
-
-// Four cells of a Dot or Custom grid merged.
-fn merge_four_plain(cells: &mut [u32], i: usize, word: u32)
-    requires { i + 4 ≤ length cells.old / 5 }
-    ensures { (marker character : ℕ) → (eqb marker 2 || eqb marker 8) ≡ true → word ≡ suc (symbol_of marker character 1)
+// Four cells of such a grid merged.
+fn merge_four_symbols<const PATTERNS: u32, F: Fn(u32) -> u32>(
+    cells: &mut [u32],
+    i: usize,
+    word_of: F,
+)
+    requires held { i + 4 ≤ length cells.old / 5 }
+    requires some { 0 < PATTERNS }
+    requires can { F.IsAlwaysCallable word_of }
+    ensures { (marker : Marker) (character : ℕ) → is_half_block marker ≡ false → is_block marker ≡ false → pattern_count marker ≡ PATTERNS
+        → ((pattern word : ℕ) → pattern < PATTERNS → F.post word_of pattern word → word ≡ suc (symbol_of marker character pattern))
         → cells.new ≡ do_four (merged_cell marker character) cells.old i }
 {
-    merge_plain(&mut *cells, i, word);
-    merge_plain(&mut *cells, i + 1, word);
-    merge_plain(&mut *cells, i + 2, word);
-    merge_plain(&mut *cells, i + 3, word);
+    merge_symbol::<PATTERNS, F>(cells, i, &word_of);
+    merge_symbol::<PATTERNS, F>(cells, i + 1, &word_of);
+    merge_symbol::<PATTERNS, F>(cells, i + 2, &word_of);
+    merge_symbol::<PATTERNS, F>(cells, i + 3, &word_of);
 }
 
 // Four cells merged. Without ink they stay as they are, which is the same, since 'A layer sets nothing
 // in a cell without its dots'; most cells of a layer are so, and four are tested as fast as one.
 // Braille, Dot and Custom are told apart once for the four, and not for each cell.
-fn merge_four(cells: &mut [u32], i: usize, marker: u8, character: u32, word: u32)
+fn merge_four(cells: &mut [u32], i: usize, marker: Marker, character: u32, word: u32)
     requires { (i + 4 ≤ length cells.old / 5) × (word ≡ suc (symbol_of marker (character % 2 ^ 21) 1)) }
     ensures { cells.new ≡ do_four (merged_cell marker (character % 2 ^ 21)) cells.old i }
 {
-    if are_bare(&*cells, i) {
+    if are_bare(cells, i) {
         return;
     }
-    if marker == 1 {
-        merge_four_braille(&mut *cells, i);
-        return;
+    match marker {
+        Marker::Braille => merge_four_symbols::<256, _>(cells, i, braille_word),
+        Marker::Dot | Marker::Custom => merge_four_symbols::<2, _>(cells, i, |_| word),
+        _ => {
+            merge_at(cells, i, marker, character);
+            merge_at(cells, i + 1, marker, character);
+            merge_at(cells, i + 2, marker, character);
+            merge_at(cells, i + 3, marker, character);
+        }
     }
-    if (marker == 2) | (marker == 8) {
-        merge_four_plain(&mut *cells, i, word);
-        return;
-    }
-    merge_at(&mut *cells, i, marker, character);
-    merge_at(&mut *cells, i + 1, marker, character);
-    merge_at(&mut *cells, i + 2, marker, character);
-    merge_at(&mut *cells, i + 3, marker, character);
 }
 
 // The first n fours of cells merged.
-fn merge_fours(cells: &mut [u32], n: usize, marker: u8, character: u32)
+fn merge_fours(cells: &mut [u32], n: usize, marker: Marker, character: u32)
     requires { n * 4 ≤ length cells.old / 5 }
     ensures { cells.new ≡ each_cell (merged_cell marker (character % 2 ^ 21)) cells.old (n * 4) }
 {
     let word = symbol(marker, character, 1) + 1;
-    let mut i = 0;
-    while i < n {
-        merge_four(&mut *cells, i * 4, marker, character, word);
-        i += 1;
+    for i in 0..n {
+        merge_four(cells, i * 4, marker, character, word);
     }
 }
 
 // The cells from one place to the n-th merged, after those before it.
-fn merge_rest(cells: &mut [u32], from: usize, n: usize, marker: u8, character: u32)
+fn merge_rest(cells: &mut [u32], from: usize, n: usize, marker: Marker, character: u32)
     requires { (from ≤ n) × (n ≤ length cells.old / 5) }
     ensures { (start : List ℕ) → cells.old ≡ each_cell (merged_cell marker (character % 2 ^ 21)) start from
         → cells.new ≡ each_cell (merged_cell marker (character % 2 ^ 21)) start n }
 {
-    let mut i = from;
-    while i < n {
-        merge_at(&mut *cells, i, marker, character);
-        i += 1;
+    for i in from..n {
+        merge_at(cells, i, marker, character);
     }
 }
 
 // The grid laid over the picture, in each of the canvas' cells.
-pub fn save(cells: &mut [u32], columns: u16, rows: u16, marker: u8, character: u32)
+pub fn save(cells: &mut [u32], columns: u16, rows: u16, marker: Marker, character: u32)
     ensures { cells.new ≡ save_of marker (character % 2 ^ 21) cells.old (columns * rows) }
 {
     let n = cell_count(columns, rows);
-    let mut i = 0;
-    while i < n {
-        let c = load(&*cells, i);
+    for i in 0..n {
+        let c = load(cells, i);
         let d = saved_cell(marker, character, c);
-        store(&mut *cells, i, d);
-        i += 1;
+        store(cells, i, d);
     }
 }
 
@@ -322,46 +275,43 @@ pub fn save(cells: &mut [u32], columns: u16, rows: u16, marker: u8, character: u
 pub fn reset(cells: &mut [u32], columns: u16, rows: u16)
     ensures { cells.new ≡ reset_of cells.old (columns * rows) }
 {
-    let n = held(&*cells, columns, rows);
-    let mut i = 0;
-    while i < n {
-        clear_at(&mut *cells, i);
-        i += 1;
+    let n = cells_held(cells, columns, rows);
+    for i in 0..n {
+        clear_at(cells, i);
     }
 }
 
 // save and reset in one pass, four cells at a time.
-fn save_reset(cells: &mut [u32], columns: u16, rows: u16, marker: u8, character: u32)
+fn save_reset(cells: &mut [u32], columns: u16, rows: u16, marker: Marker, character: u32)
     ensures { cells.new ≡ reset_of (save_of marker (character % 2 ^ 21) cells.old (columns * rows)) (columns * rows) }
 {
-    let n = held(&*cells, columns, rows);
+    let n = cells_held(cells, columns, rows);
     let fours = n / 4;
-    merge_fours(&mut *cells, fours, marker, character);
-    merge_rest(&mut *cells, fours * 4, n, marker, character);
+    merge_fours(cells, fours, marker, character);
+    merge_rest(cells, fours * 4, n, marker, character);
 }
 
 // A layer saved, and its grid cleared: 'Each saving clears the grid'. HalfBlock, Quadrant and Sextant
 // take the two passes of the Rust. Braille and the grids of one dot a cell, which most pictures are
 // drawn on, take one: there a second pass was measured to matter.
-pub fn finish_layer(cells: &mut [u32], columns: u16, rows: u16, marker: u8, character: u32)
+pub fn finish_layer(cells: &mut [u32], columns: u16, rows: u16, marker: Marker, character: u32)
     ensures { cells.new ≡ reset_of (save_of marker (character % 2 ^ 21) cells.old (columns * rows)) (columns * rows) }
 {
-    if (marker == 5) | (marker == 6) | (marker == 7) {
-        save(&mut *cells, columns, rows, marker, character);
-        reset(&mut *cells, columns, rows);
+    if matches!(
+        marker,
+        Marker::HalfBlock | Marker::Quadrant | Marker::Sextant
+    ) {
+        save(cells, columns, rows, marker, character);
+        reset(cells, columns, rows);
     } else {
-        save_reset(&mut *cells, columns, rows, marker, character);
+        save_reset(cells, columns, rows, marker, character);
     }
 }
 
-// The canvas' cells made blank: by words, which the compiler makes one fill of memory.
+// The canvas' cells made blank: one fill of memory.
 pub fn blank(cells: &mut [u32], columns: u16, rows: u16)
     ensures { cells.new ≡ blank_of cells.old (columns * rows) }
 {
-    let n = held(&*cells, columns, rows) * 5;
-    let mut k = 0;
-    while k < n {
-        cells[k] = 0;
-        k += 1;
-    }
+    let n = cells_held(cells, columns, rows) * 5;
+    cells[..n].fill(0);
 }

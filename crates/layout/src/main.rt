@@ -4,18 +4,18 @@
 #![tactic(auto)]
 
 use report::program::print_layout;
-use streams::{print, read_input};
+use streams::{FILE_ROOM, Program};
 
-// The buffer has one byte more than a file may have: where it is full, the file is refused with 17
-// whatever follows (report's `Enough`).
 fn main(rt: HostRuntime) {
-    let mut buffer = [0u8; 65537];
-    let input = read_input(&rt, b"layout", &mut buffer);
-    if input.failed {
+    let program = Program {
+        runtime: &rt,
+        name: b"layout",
+    };
+    let mut buffer = [0u8; FILE_ROOM];
+    let Ok(count) = program.read(&mut buffer) else {
         return;
-    }
-    let n = input.count;
+    };
     let mut out = [0u8; 65536];
-    let length = print_layout(&buffer[..n], &mut out);
-    print(&rt, b"layout", &out[..length]);
+    let length = print_layout(&buffer[..count], &mut out);
+    let _ = program.print(&out[..length]);
 }

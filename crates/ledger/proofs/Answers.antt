@@ -6,8 +6,7 @@ use Prim.Native.Nat.{ℕ, zero, suc, ◌-◌, ◌≤◌, min}
 use native.Mathlib.Omega.{arith}
 use lib.Dec.{ltb}
 use lib.ListN.{length}
-use Rattle.view.specs.declared.point.Found.{Found}
-use Rattle.view.specs.declared.point.Found.TheVariants.{At, Nowhere}
+use Rattle.std.specs.Prelude.{Option, Some, None}
 use Rattle.ledger.specs.Screen.{cell_on, Placed}
 use Rattle.ledger.specs.Calls.{Call, draw, points, dot, layer, marker, print, render}
 use Rattle.ledger.specs.Ledger.{unless, reply_unless}
@@ -40,9 +39,9 @@ answers-are s (render area words) = go (refusal_on s (render area words))
     go zero = refl
     go (suc k) = refl
 
-fitting-short : (columns rows : ℕ) (f : Found) (n : ℕ) → fitting_at columns rows f n ≤ length_at f n
-fitting-short columns rows Nowhere n = omega arith
-fitting-short columns rows (At column row) n = go (ltb row rows)
+fitting-short : (columns rows : ℕ) (f : Option (ℕ × ℕ)) (n : ℕ) → fitting_at columns rows f n ≤ length_at f n
+fitting-short columns rows None n = omega arith
+fitting-short columns rows (Some (column, row)) n = go (ltb row rows)
   where
     go : (t : Bool) → cond t (min n (columns - column)) 0 ≤ n
     go true = omega arith

@@ -15,8 +15,7 @@ use Rattle.ledger.specs.Calls.{Opening, Call, layer, bad_size, bad_bounds, bad_c
 use Rattle.ledger.specs.Model.{State, opening_of, cell_count, bad_canvas, short_stores, state_refusal, or_refusal, refusal_on, opened_canvas, zero_canvas, open_cells, state_after, accepted_on}
 use Rattle.ledger.specs.Outcomes.{given, refusal_by, accepted_answer, answer_on, called_on, open_called}
 use Rattle.ledger.specs.declared.state.Canvas.{Canvas}
-use Rattle.ledger.specs.declared.state.Answer.TheVariants.{Refused, Done}
-use Rattle.ledger.specs.declared.state.Called.{Called}
+use Rattle.ledger.specs.Answer.{Refused, Done, Called}
 use Rattle.grids.proofs.Cases.{cond-none}
 use Rattle.ledger.proofs.Refusals.{GoodOpening, size-within}
 

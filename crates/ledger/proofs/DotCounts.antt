@@ -4,6 +4,7 @@ use native.Mathlib.Nat.{le_trans}
 use lib.Dec.{lit≤}
 use lib.ListN.{length}
 use Rattle.walk.specs.declared.clip.Bounds.{Bounds}
+use Rattle.grids.specs.declared.markers.Marker.{Marker}
 use Rattle.view.specs.Limits.{max_columns, max_rows, max_painted, max_pairs}
 use Rattle.view.specs.Point.{view_of}
 use Rattle.shapes.proofs.DotCounts.{pairs-count, shape-few, view-small}
@@ -18,7 +19,7 @@ FewPairs (marker m character) = Unit {0}
 FewPairs (print x y text choice) = Unit {0}
 FewPairs (render area words) = Unit {0}
 
-pub few-dots : (bounds : Bounds) (columns rows m : ℕ) (c : Call) → columns ≤ max_columns → rows ≤ max_rows → FewPairs c → length (call_dots (view_of bounds columns rows m) c) ≤ max_painted
+pub few-dots : (bounds : Bounds) (columns rows : ℕ) (m : Marker) (c : Call) → columns ≤ max_columns → rows ≤ max_rows → FewPairs c → length (call_dots (view_of bounds columns rows m) c) ≤ max_painted
 unfolding call_dots
 few-dots bounds columns rows m (draw shape colour) h k f = shape-few (view_of bounds columns rows m) shape (view-small bounds columns rows m h k)
 few-dots bounds columns rows m (points pairs colour) h k f = le_trans (pairs-count (view_of bounds columns rows m) pairs) (le_trans f (lit≤ tt))

@@ -1,22 +1,14 @@
--- How many bytes of a label fit, by the words of its place: in a row of the area as many as there are columns left, and each of them in the area.
+-- The bytes of a label that fit, by the words of its place: each is in the area, and they are no more than its length.
 use mathlib.Core.Path.{◌≡◌, refl}
 use mathlib.Core.Bool.{Bool, true, false, cond}
 use Prim.Native.Nat.{ℕ, zero, suc, ◌+◌, ◌-◌, ◌≤◌, ◌<◌, min}
 use native.Mathlib.Omega.{arith}
 use lib.Dec.{ltb}
-use borrow.Author.Tests.{ltb-true, lt-ltb, le-ltb}
+use borrow.Author.Tests.{ltb-true}
 use Rattle.ledger.specs.Labels.{place_of}
 use Rattle.ledger.specs.Model.{fitting_at}
 
 module _ (columns rows : ℕ) where
-  pub fitting-below : (word row n : ℕ) → rows ≤ row → fitting_at columns rows (place_of word row) n ≡ 0
-  fitting-below zero row n h = refl
-  fitting-below (suc column) row n h = rw (le-ltb row rows h)
-
-  pub fitting-in-row : (word row n : ℕ) → (word ≡ 0 → ⊥) → row < rows → fitting_at columns rows (place_of word row) n ≡ min n (columns - (word - 1))
-  fitting-in-row zero row n w h = absurd (w refl)
-  fitting-in-row (suc column) row n w h = let e : suc column - 1 ≡ column = omega arith in rw (e, lt-ltb row rows h)
-
   -- the byte i of those that fit
   pub fitting-byte : (word row n i : ℕ) → i < fitting_at columns rows (place_of word row) n → (1 ≤ word) × (row < rows) × (word - 1 + i < columns) × (i < n)
   fitting-byte zero row n i h = absurd (omega arith)

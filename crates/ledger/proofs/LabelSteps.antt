@@ -6,25 +6,24 @@ use Prim.Native.Nat.{ℕ, zero, suc, ◌+◌, ◌*◌, ◌%◌, ◌^◌, ◌≤�
 use native.Mathlib.Omega.{arith}
 use lib.Ieee.{Float}
 use lib.ListN.{length}
+use Rattle.std.specs.Prelude.{Option}
 use Rattle.grids.specs.Lists.{foldl}
 use Rattle.view.specs.Limits.{max_text, max_labels}
 use Rattle.view.specs.Point.{label_place}
-use Rattle.view.specs.declared.point.Found.{Found}
 use Rattle.ledger.specs.Labels.{put_label, held_labels}
 use Rattle.ledger.specs.Calls.{print, render, bad_point, bad_choice, passes_edge, bad_screen, refusal}
 use Rattle.ledger.specs.Ledger.{choice_word}
 use Rattle.ledger.specs.Model.{opening_of, refusal_on, rendered_canvas, rendered_cells, laid_screen, written_label, rendered_screen, label_cells, state_after}
 use Rattle.ledger.specs.Outcomes.{given, refusal_by, called_on, screen_on}
-use Rattle.ledger.specs.declared.labels.Choice.{Choice}
 use Rattle.ledger.specs.declared.screen.Area.{Area}
 use Rattle.ledger.specs.declared.state.Canvas.{Canvas}
-use Rattle.ledger.specs.declared.state.Answer.TheVariants.{Done, Rendered}
+use Rattle.ledger.specs.Answer.{Done, Rendered}
 use Rattle.grids.proofs.Cases.{cond-none}
 use Rattle.ledger.proofs.Refusals.{print-fits}
 use Rattle.ledger.proofs.CallSteps.{Gives, accepted-gives, accepted-fine, accepted-own}
 
 module _ (c : Canvas) (cells labels : List ℕ) where
-  module _ (x y : Float) (text : List ℕ) (choice : Choice) (e : 0 ≡ refusal_by c (length cells) (length labels) (print x y text choice)) where
+  module _ (x y : Float) (text : List ℕ) (choice : Option ℕ) (e : 0 ≡ refusal_by c (length cells) (length labels) (print x y text choice)) where
     own : refusal (opening_of c) c.draws c.labels c.marker (print x y text choice) ≡ 0
     own = accepted-own c (length cells) (length labels) (print x y text choice) e
 
@@ -41,7 +40,7 @@ module _ (c : Canvas) (cells labels : List ℕ) where
         let b = fits.1 in
         omega arith
 
-    pub print-gives : (place : Found) (word held : ℕ) (after : List ℕ) → place ≡ label_place c.bounds c.columns c.rows x y → (bad_choice choice ≡ false → word ≡ choice_word choice)
+    pub print-gives : (place : Option (ℕ × ℕ)) (word held : ℕ) (after : List ℕ) → place ≡ label_place c.bounds c.columns c.rows x y → (bad_choice choice ≡ false → word ≡ choice_word choice)
         → (c.labels * 44 + 44 ≤ length labels → length text ≤ max_text → after ≡ put_label labels c.labels (record { place = place; word = word; text = text }))
         → held ≡ (c.labels + 1) % 2 ^ 32 → Gives (given c cells labels) (print x y text choice) (record { canvas = record { columns = c.columns; rows = c.rows; bounds = c.bounds; marker = c.marker; character = c.character; background = c.background; dirty = c.dirty; rendered = c.rendered; labels = held; draws = c.draws; painted = c.painted }; answer = Done }) cells after
     print-gives place word held after is-place is_IsWord put is_held_lem =

@@ -6,14 +6,13 @@ use native.Mathlib.Numerals.{add-one, add-two, add-three, add-four}
 use native.Mathlib.Omega.{arith}
 use lib.ListN.{get_or, length, set, length-set}
 use lib.Seq.{sets, length-sets, get_or-set_same, get_or-set_other}
+use Rattle.std.specs.Prelude.{Option, Some, None}
 use Rattle.ledger.specs.Screen.{Placed}
 use Rattle.ledger.specs.Labels.{column_word, row_word, place_of, words_from, label_at, put_label, held_labels}
-use Rattle.view.specs.declared.point.Found.{Found}
-use Rattle.view.specs.declared.point.Found.TheVariants.{At, Nowhere}
 
-place-of-words : (f : Found) → place_of (column_word f) (row_word f) ≡ f
-place-of-words (At column row) = refl
-place-of-words Nowhere = refl
+place-of-words : (f : Option (ℕ × ℕ)) → place_of (column_word f) (row_word f) ≡ f
+place-of-words (Some (column, row)) = refl
+place-of-words None = refl
 
 -- ---- a run of stores
 sets-before : (values words : List ℕ) (i j : ℕ) → j < i → get_or (sets words i values) j 0 ≡ get_or words j 0

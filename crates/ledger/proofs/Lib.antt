@@ -1,6 +1,4 @@
 -- Laws of the calls and of the ledger, and the proof of the promise.
-pub mod Tests
-pub mod Scans
 pub mod Runs
 pub mod Spots
 pub mod Fitting

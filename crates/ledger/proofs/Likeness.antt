@@ -4,7 +4,9 @@ use mathlib.Core.List.{List, [], ◌∷◌, ◌++◌, append_assoc}
 use Prim.Native.Nat.{ℕ, zero, suc, ◌+◌, ◌-◌, ◌*◌, ◌/◌, ◌%◌}
 use lib.ListN.{length, length-append}
 use Rattle.grids.specs.Lists.{over, last_word}
+use Rattle.grids.specs.Markers.{marker_of}
 use Rattle.grids.specs.Dots.{Inked, layer_sets}
+use Rattle.grids.specs.declared.markers.Marker.{Marker}
 use Rattle.grids.specs.declared.layer.LayerCell.{LayerCell}
 use Rattle.grids.proofs.OneInk.{layer-swap}
 use Rattle.lines.specs.Painted.{flat}
@@ -64,7 +66,7 @@ alike-trans a b = record {
 }
 
 -- ---- what they show
-sets-exchanged : (m character columns i : ℕ) (front : List Inked) {xs ys : List Inked} → Exchanged SameInk xs ys → layer_sets m character columns (front ++ xs) i ≡ layer_sets m character columns (front ++ ys) i
+sets-exchanged : (m : Marker) (character columns i : ℕ) (front : List Inked) {xs ys : List Inked} → Exchanged SameInk xs ys → layer_sets m character columns (front ++ xs) i ≡ layer_sets m character columns (front ++ ys) i
 sets-exchanged m character columns i front ex-none = refl
 sets-exchanged m character columns i front (ex-same x {xs} {ys} p) =
     rw (append_assoc front (x ∷ []) xs, append_assoc front (x ∷ []) ys) at (sets-exchanged m character columns i (front ++ (x ∷ [])) p)
@@ -73,7 +75,7 @@ sets-exchanged m character columns i front (ex-both p q) = sets-exchanged m char
 
 sets-alike : (columns i : ℕ) (x y : Layer) → AlikeLayer x y → layer_at columns i x ≡ layer_at columns i y
 sets-alike columns i x y p =
-    sets-exchanged x.marker x.character columns i [] p.dots ∙ ap₂ (λ (m character : ℕ). layer_sets m character columns y.dots i) p.marker p.character
+    sets-exchanged (marker_of x.marker) x.character columns i [] p.dots ∙ ap₂ (λ (m character : ℕ). layer_sets (marker_of m) character columns y.dots i) p.marker p.character
 
 last-alike : (word : Layer → ℕ) → ((x y : Layer) → AlikeLayer x y → word x ≡ word y) → {xs ys : List Layer} → AlikeLayers xs ys → last_word word xs ≡ last_word word ys
 last-alike word each alike-none = refl

@@ -5,6 +5,7 @@ use Prim.Native.Nat.{ℕ, ◌+◌, ◌*◌, ◌^◌, ◌≤◌, ◌<◌}
 use native.Mathlib.Omega.{arith}
 use lib.ListN.{length}
 use borrow.Author.Tests.{ltb-false}
+use Rattle.grids.specs.Markers.{marker_of}
 use Rattle.view.specs.Limits.{max_columns, max_rows, max_draws, max_painted, reset}
 use Rattle.lines.specs.Painted.{painted_by}
 use Rattle.lines.specs.declared.painter.Painter.{Painter}
@@ -12,8 +13,7 @@ use Rattle.ledger.specs.Calls.{Call, draw, points, dot, bad_shape, bad_pairs, ba
 use Rattle.ledger.specs.Ledger.{ink_of}
 use Rattle.ledger.specs.Model.{State, opening_of, refusal_on, dots_on, drawn_canvas}
 use Rattle.ledger.specs.Outcomes.{refusal_by, painter_of}
-use Rattle.ledger.specs.declared.state.Answer.TheVariants.{Painted}
-use Rattle.ledger.specs.declared.state.Called.{Called}
+use Rattle.ledger.specs.Answer.{Painted, Called}
 use Rattle.ledger.proofs.DotCounts.{few-dots}
 use Rattle.grids.proofs.Cases.{cond-none}
 use Rattle.ledger.proofs.Refusals.{Paints, by-draw, by-points, by-dot, size-within, paints-room, paints-few}
@@ -49,7 +49,7 @@ module _ (s : State) (c : Call) (p : Paints c) (e : 0 ≡ refusal_on s c) where
 
   few : length (dots_on s.canvas c) ≤ max_painted
   few =
-      few-dots s.canvas.bounds s.canvas.columns s.canvas.rows s.canvas.marker c paints-columns paints-rows
+      few-dots s.canvas.bounds s.canvas.columns s.canvas.rows (marker_of s.canvas.marker) c paints-columns paints-rows
       (paints-few (opening_of s.canvas) s.canvas.draws s.canvas.labels s.canvas.marker p own)
 
   count_fits : s.canvas.painted + length (dots_on s.canvas c) < 2 ^ 64

@@ -7,6 +7,7 @@ use lib.Dec.{ltb, leb}
 use lib.Ieee.{Float}
 use lib.ListN.{length}
 use borrow.Author.Tests.{ltb-false, leb-true, leb-false, lt-leb, eqb-true, not-false}
+use Rattle.std.specs.Prelude.{Option}
 use Rattle.floats.proofs.Cases.{and-true-left, and-true-right, or-false-left, or-false-right}
 use Rattle.grids.specs.Markers.{is_marker}
 use Rattle.grids.proofs.Cases.{cond-none}
@@ -14,7 +15,6 @@ use Rattle.view.specs.Limits.{max_columns, max_rows, max_draws, max_pairs, max_l
 use Rattle.shapes.specs.declared.painters.Pair.{Pair}
 use Rattle.ledger.specs.Calls.{Opening, Call, draw, points, dot, layer, marker, print, render, bad_size, bad_bounds, bad_colour, bad_shape, bad_pairs, bad_point, bad_choice, bad_text, bad_bytes, passes_edge, bad_screen, refusal, open_refusal}
 use Rattle.shapes.specs.declared.painters.Shape.{Shape}
-use Rattle.ledger.specs.declared.labels.Choice.{Choice}
 use Rattle.ledger.specs.declared.screen.Area.{Area}
 use Rattle.ledger.proofs.DotCounts.{FewPairs}
 
@@ -25,7 +25,7 @@ pub data Paints : Call → Type 0 where
   by-dot : (column row colour : ℕ) → Paints (dot column row colour)
 
 pub data Prints : Call → Type 0 where
-  by-print : (x y : Float) (text : List ℕ) (choice : Choice) → Prints (print x y text choice)
+  by-print : (x y : Float) (text : List ℕ) (choice : Option ℕ) → Prints (print x y text choice)
 
 -- ---- an opening
 pub record GoodOpening (o : Opening) : Type 0 where
@@ -74,7 +74,7 @@ module _ (o : Opening) (held n m : ℕ) where
   unfolding refusal
   marker-valid number character e = not-false _ (cond-none (not (is_marker number character)) 3 _ e).0
 
-  pub print-fits : (x y : Float) (text : List ℕ) (choice : Choice) → refusal o held n m (print x y text choice) ≡ 0 → (length text ≤ max_text) × (n < max_labels)
+  pub print-fits : (x y : Float) (text : List ℕ) (choice : Option ℕ) → refusal o held n m (print x y text choice) ≡ 0 → (length text ≤ max_text) × (n < max_labels)
   unfolding refusal
   print-fits x y text choice e =
       let e₁ = cond-none (bad_text text) 9 _ (cond-none (bad_choice choice) 2 _ (cond-none (bad_point x y) 1 _ e).1).1 in (

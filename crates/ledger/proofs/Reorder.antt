@@ -5,10 +5,12 @@ use mathlib.Core.List.{List, [], ◌∷◌, ◌++◌, append_assoc, append-nil}
 use Prim.Native.Nat.{ℕ, zero, suc, ◌<◌}
 use native.Mathlib.Omega.{arith}
 use lib.Ieee.{Float}
+use Rattle.std.specs.Prelude.{Option}
 use lib.ListN.{length}
 use Rattle.floats.proofs.Cases.{false-not-true}
 use Rattle.walk.specs.declared.bresenham.Dot.{Dot}
 use Rattle.grids.specs.Lists.{keep}
+use Rattle.grids.specs.Markers.{marker_of}
 use Rattle.grids.specs.Dots.{Inked}
 use Rattle.grids.specs.Painting.{inked}
 use Rattle.view.specs.Limits.{max_draws}
@@ -16,7 +18,6 @@ use Rattle.view.specs.Point.{view_of}
 use Rattle.ledger.specs.Calls.{Opening, Call, draw, points, dot, layer, marker, print, render, refusal, call_dots}
 use Rattle.ledger.specs.Ledger.{Label, Ledger, refusal_in, with_dots, with_label, ink_of, added_dots, accepted, Reply, refused, painted, done, shown, reply, reply_unless, ledger_after, ledger_reply, ledger_replies}
 use Rattle.ledger.specs.Promise.{first_shown, is_accepted, NoRefusal, Reordered, Every, nil, cons, OfColour, is_print}
-use Rattle.ledger.specs.declared.labels.Choice.{Choice}
 use Rattle.grids.proofs.Cases.{cond-none}
 use Rattle.ledger.proofs.Refusals.{Paints, by-draw, by-points, by-dot, Prints, by-print, paints-room, paints-again}
 use Rattle.ledger.proofs.Sums.{ledger_through}
@@ -61,7 +62,7 @@ every-inked k ink e [] = nil
 every-inked k ink e (d ∷ dots) = cons e (every-inked k ink e dots)
 
 every-added : (o : Opening) (k m : ℕ) (c : Call) → ink_of c ≡ k → Every (OfInk k) (added_dots o m c)
-every-added o k m c e = every-inked k (ink_of c) e (call_dots (view_of o.bounds o.columns o.rows m) c)
+every-added o k m c e = every-inked k (ink_of c) e (call_dots (view_of o.bounds o.columns o.rows (marker_of m)) c)
 
 two-lists : (k : ℕ) (front xs ys : List Inked) → Every (OfInk k) xs → Every (OfInk k) ys → Exchanged SameInk ((front ++ xs) ++ ys) ((front ++ ys) ++ xs)
 two-lists k front xs ys a b =
@@ -115,7 +116,7 @@ module _ (o : Opening) where
         }),
       )
 
-  module _ (k : ℕ) (l : Ledger) (c : Call) (h : Inks k c) (x y : Float) (text : List ℕ) (choice : Choice) where
+  module _ (k : ℕ) (l : Ledger) (c : Call) (h : Inks k c) (x y : Float) (text : List ℕ) (choice : Option ℕ) where
     abbrev added : List Inked
     added = added_dots o l.last.marker c
 

@@ -10,13 +10,12 @@ use lib.Arith.{digits_lt, digits_div, digits_mod}
 use lib.ListN.{length, get_or, set, length-set}
 use lib.Seq.{get_or-set_same, get_or-set_other}
 use borrow.Author.Tests.{ltb-true, leb-true, eqb-true, eqb-false, eq-eqb, lt-ltb, le-leb}
+use Rattle.std.specs.Prelude.{Option, Some, None}
 use Rattle.floats.proofs.Cases.{true-not-false, and-true-left, and-true-right}
 use Rattle.grids.specs.Lists.{foldl, over, last_word}
 use Rattle.grids.specs.declared.layer.LayerCell.{LayerCell}
 use Rattle.ledger.specs.Screen.{ScreenCell, cell_on, put_on, or_else, layered, Placed, covers, label_symbol, label_foreground, labelled, in_area}
 use Rattle.ledger.specs.Model.{cell_count, puts, spot, picture_at, laid_screen, fitting_at, fitting, column_of, row_of, lettered, written_label, rendered_screen}
-use Rattle.view.specs.declared.point.Found.{Found}
-use Rattle.view.specs.declared.point.Found.TheVariants.{At, Nowhere}
 use Rattle.ledger.specs.declared.screen.Area.{Area}
 use Rattle.ledger.specs.declared.state.Canvas.{Canvas}
 
@@ -47,7 +46,7 @@ put-on-other words j c i other =
 
 -- ---- a loop of puts
 module _ (at : ℕ → ℕ) (become : ℕ → ScreenCell → ScreenCell) (words : List ℕ) where
-  length-puts : (n : ℕ) → length (puts at become words n) ≡ length words
+  pub length-puts : (n : ℕ) → length (puts at become words n) ≡ length words
   length-puts zero = refl
   length-puts (suc n) = length-put-on (puts at become words n) (at n) _ ∙ length-puts n
 
@@ -165,30 +164,30 @@ module _ (c : Canvas) (a : Area) (across : a.x + c.columns ≤ a.columns) (down 
           (spot-room words refl (i % c.columns) (i / c.columns) (cell-place i l).0 (cell-place i l).1))
 
     -- ---- a label
-    abbrev label_from : Found → ℕ → List ℕ → Placed
+    abbrev label_from : Option (ℕ × ℕ) → ℕ → List ℕ → Placed
     label_from place word text = record { place = place; word = word; text = text }
 
-    fitting-says : (x y n k : ℕ) → k < fitting_at c.columns c.rows (At x y) n → (y < c.rows) × (x + k < c.columns) × (k < n)
+    fitting-says : (x y n k : ℕ) → k < fitting_at c.columns c.rows (Some (x, y)) n → (y < c.rows) × (x + k < c.columns) × (k < n)
     fitting-says x y n k = go (ltb y c.rows) refl
       where
         go : (t : Bool) → ltb y c.rows ≡ t → k < cond t (min n (c.columns - x)) 0 → (y < c.rows) × (x + k < c.columns) × (k < n)
         go true e h = (ltb-true y c.rows e, omega arith, omega arith)
         go false e h = absurd (omega arith)
 
-    written-outside : (s : List ℕ) (place : Found) (word : ℕ) (text : List ℕ) (j : ℕ) → within j ≡ false → cell_on (written_label c a s (label_from place word text)) j ≡ cell_on s j
-    written-outside s Nowhere word text j e = refl
-    written-outside s (At x y) word text j e =
-        puts-miss (λ k. spot a (x + k) y) (lettered (label_from (At x y) word text)) s (fitting c (label_from (At x y) word text)) j (λ i h.
+    written-outside : (s : List ℕ) (place : Option (ℕ × ℕ)) (word : ℕ) (text : List ℕ) (j : ℕ) → within j ≡ false → cell_on (written_label c a s (label_from place word text)) j ≡ cell_on s j
+    written-outside s None word text j e = refl
+    written-outside s (Some (x, y)) word text j e =
+        puts-miss (λ k. spot a (x + k) y) (lettered (label_from (Some (x, y)) word text)) s (fitting c (label_from (Some (x, y)) word text)) j (λ i h.
         let t = fitting-says x y (length text) i h in
         outside-spot j (x + i) y e t.1 t.0)
 
-    written-inside : (s : List ℕ) → length s ≡ length words → (place : Found) (word : ℕ) (text : List ℕ) (column row : ℕ) → column < c.columns → row < c.rows
+    written-inside : (s : List ℕ) → length s ≡ length words → (place : Option (ℕ × ℕ)) (word : ℕ) (text : List ℕ) (column row : ℕ) → column < c.columns → row < c.rows
         → cell_on (written_label c a s (label_from place word text)) (spot a column row) ≡ labelled (label_from place word text ∷ []) column row (cell_on s (spot a column row))
-    written-inside s len Nowhere word text column row h k = refl
-    written-inside s len (At x y) word text column row h k = go (covers (label_from (At x y) word text) column row) refl
+    written-inside s len None word text column row h k = refl
+    written-inside s len (Some (x, y)) word text column row h k = go (covers (label_from (Some (x, y)) word text) column row) refl
       where
-        go : (t : Bool) → covers (label_from (At x y) word text) column row ≡ t
-            → cell_on (written_label c a s (label_from (At x y) word text)) (spot a column row) ≡ labelled (label_from (At x y) word text ∷ []) column row (cell_on s (spot a column row))
+        go : (t : Bool) → covers (label_from (Some (x, y)) word text) column row ≡ t
+            → cell_on (written_label c a s (label_from (Some (x, y)) word text)) (spot a column row) ≡ labelled (label_from (Some (x, y)) word text ∷ []) column row (cell_on s (spot a column row))
         go true e =
             let in_row : y ≡ row = eqb-true y row (and-true-left (eqb y row) _ e) in
             let rest = and-true-right (eqb y row) (leb x column && ltb (column - x) (length text)) e in
@@ -198,8 +197,8 @@ module _ (c : Canvas) (a : Area) (across : a.x + c.columns ≤ a.columns) (down 
             let reaches : x + i ≡ column = omega arith in
             let here : spot a (x + i) y ≡ spot a column row = ap₂ (spot a) reaches in_row in
             rw e
-            (subst (λ (j : ℕ). cell_on (written_label c a s (label_from (At x y) word text)) j ≡ lettered (label_from (At x y) word text) i (cell_on s j)) here
-            (puts-hit (λ k. spot a (x + k) y) (lettered (label_from (At x y) word text)) s (fitting c (label_from (At x y) word text)) i
+            (subst (λ (j : ℕ). cell_on (written_label c a s (label_from (Some (x, y)) word text)) j ≡ lettered (label_from (Some (x, y)) word text) i (cell_on s j)) here
+            (puts-hit (λ k. spot a (x + k) y) (lettered (label_from (Some (x, y)) word text)) s (fitting c (label_from (Some (x, y)) word text)) i
             (rw (lt-ltb y c.rows (omega arith)) (omega arith))
             (λ i' l' other q.
             let f = fitting-says x y (length text) i' l' in
@@ -208,7 +207,7 @@ module _ (c : Canvas) (a : Area) (across : a.x + c.columns ≤ a.columns) (down 
             (spot-room s len (x + i) y (omega arith) (omega arith))))
         go false e =
             rw e
-            (puts-miss (λ k. spot a (x + k) y) (lettered (label_from (At x y) word text)) s (fitting c (label_from (At x y) word text)) (spot a column row) (λ i h' q.
+            (puts-miss (λ k. spot a (x + k) y) (lettered (label_from (Some (x, y)) word text)) s (fitting c (label_from (Some (x, y)) word text)) (spot a column row) (λ i h' q.
             let f = fitting-says x y (length text) i h' in
             let u = spot-once column row (x + i) y h f.1 q in
             true-not-false (sym (rw (eq-eqb y row (omega (arith, u)), le-leb x column (omega (arith, u)), lt-ltb (column - x) (length text) (omega (arith, u, f)))) ∙ e)))

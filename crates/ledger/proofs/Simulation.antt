@@ -7,12 +7,14 @@ use native.Mathlib.Omega.{arith}
 use native.Mathlib.Numerals.{add-one}
 use lib.Dec.{eqb}
 use lib.Ieee.{Float}
+use Rattle.std.specs.Prelude.{Option}
 use lib.ListN.{length, length-append, length-map}
 use borrow.Author.Tests.{le-ltb}
 use Rattle.floats.proofs.Cases.{true-not-false}
 use Rattle.walk.specs.declared.bresenham.Dot.{Dot}
 use Rattle.grids.specs.Lists.{foldl}
-use Rattle.grids.specs.Markers.{is_marker}
+use Rattle.grids.specs.Markers.{marker_of, is_marker}
+use Rattle.grids.specs.declared.markers.Marker.{Marker}
 use Rattle.grids.specs.Dots.{Inked, cell_index, in_cell, set_by, layer_sets}
 use Rattle.grids.specs.Cells.{cell_at, blank_cell}
 use Rattle.grids.specs.Painting.{paint_dots, inked, paint_inked}
@@ -29,7 +31,6 @@ use Rattle.ledger.specs.Calls.{Opening, Call, draw, points, dot, layer, marker, 
 use Rattle.ledger.specs.Ledger.{Label, Ledger, layers, empty_layer, opened, picture_of, placed_of, painted_in, refusal_in, with_dots, with_layer, ink_of, added_dots, accepted, unless, ledger_after}
 use Rattle.ledger.specs.Model.{State, opening_of, bad_canvas, short_stores, state_refusal, refusal_on, or_refusal, dots_on, drawn_canvas, laid_cells, saved_cells, marked_cells, rendered_cells, with_cells, accepted_on, state_after}
 use Rattle.ledger.specs.Promise.{open_state}
-use Rattle.ledger.specs.declared.labels.Choice.{Choice}
 use Rattle.ledger.specs.declared.state.Canvas.{Canvas}
 use Rattle.ledger.proofs.DotCounts.{few-dots}
 use Rattle.ledger.proofs.LabelStore.{length-put-label, held-put}
@@ -69,7 +70,7 @@ pub record Simulated (o : Opening) (s : State) (l : Ledger) : Type 0 where
   pub held : held_labels s.labels (length l.labels) ≡ map (placed_of o) l.labels
   -- a cell has the picture of the layers before, and the last layer's dots painted over a clear grid
   pub cell : (i : ℕ) → i < o.columns * o.rows
-      → cell_at s.cells i ≡ foldl (painted_inked l.last.marker) (pictured (picture_of o.columns l.before i)) (in_cell l.last.marker o.columns i l.last.dots)
+      → cell_at s.cells i ≡ foldl (painted_inked (marker_of l.last.marker)) (pictured (picture_of o.columns l.before i)) (in_cell (marker_of l.last.marker) o.columns i l.last.dots)
 
 -- what holds of every state that belongs to the ledger holds of a simulated one
 pub simulated-cases : (o : Opening) (s : State) (l : Ledger) (P : State → Type 0) → Simulated o s l
@@ -104,18 +105,21 @@ module _ (o : Opening) (l : Ledger) (dirty : Bool) (cells labels : List ℕ) (r 
   abbrev m : ℕ
   m = l.last.marker
 
+  abbrev grid : Marker
+  grid = marker_of m
+
   abbrev before : ℕ → Cell
   before i = pictured (picture_of o.columns l.before i)
 
   draw-keeps : (ink : ℕ) (dots : List Dot) → l.draws < max_draws → length dots ≤ max_painted
-      → Simulated o (with_cells (state_of o l dirty cells labels) (drawn_canvas (canvas_of o l dirty) (length dots)) (paint_dots m o.columns o.rows (suc ink) cells dots)) (with_dots l (inked ink dots))
+      → Simulated o (with_cells (state_of o l dirty cells labels) (drawn_canvas (canvas_of o l dirty) (length dots)) (paint_dots grid o.columns o.rows (suc ink) cells dots)) (with_dots l (inked ink dots))
   draw-keeps ink dots room few =
       let count : painted_in (with_dots l (inked ink dots)) ≡ painted_in l + length dots = painted-with-dots l (inked ink dots) ∙ rw length-map in
-      let same : paint_dots m o.columns o.rows (suc ink) cells dots ≡ paint_inked m o.columns o.rows cells (inked ink dots) = paint-dots-inked m o.columns o.rows ink dots cells in
+      let same : paint_dots grid o.columns o.rows (suc ink) cells dots ≡ paint_inked grid o.columns o.rows cells (inked ink dots) = paint-dots-inked grid o.columns o.rows ink dots cells in
       record {
         canvas = rw (count, add-one);
         clean = λ e. true-not-false e;
-        cell_room = rw (same, length-paint-inked m o.columns o.rows (inked ink dots) cells) r.cell_room;
+        cell_room = rw (same, length-paint-inked grid o.columns o.rows (inked ink dots) cells) r.cell_room;
         label-room = r.label-room;
         few-draws = room;
         few-labels = r.few-labels;
@@ -124,10 +128,10 @@ module _ (o : Opening) (l : Ledger) (dirty : Bool) (cells labels : List ℕ) (r 
         held = r.held;
         cell = λ i h.
             ap (λ (s : List ℕ). cell_at s i) same
-            ∙ paint-inked-at m o.columns o.rows (inked ink dots) cells i h r.cell_room
-            ∙ ap (λ (c : Cell). foldl (painted_inked m) c (in_cell m o.columns i (inked ink dots))) (r.cell i h)
-            ∙ sym (foldl-append (painted_inked m) (before i) (in_cell m o.columns i l.last.dots) (in_cell m o.columns i (inked ink dots)))
-            ∙ ap (foldl (painted_inked m) (before i)) (sym (keep_append (λ d. eqb (cell_index m o.columns d.column d.row) i) l.last.dots (inked ink dots)));
+            ∙ paint-inked-at grid o.columns o.rows (inked ink dots) cells i h r.cell_room
+            ∙ ap (λ (c : Cell). foldl (painted_inked grid) c (in_cell grid o.columns i (inked ink dots))) (r.cell i h)
+            ∙ sym (foldl-append (painted_inked grid) (before i) (in_cell grid o.columns i l.last.dots) (in_cell grid o.columns i (inked ink dots)))
+            ∙ ap (foldl (painted_inked grid) (before i)) (sym (keep_append (λ d. eqb (cell_index grid o.columns d.column d.row) i) l.last.dots (inked ink dots)));
       }
 
   -- the picture once the last layer lies on it
@@ -136,7 +140,7 @@ module _ (o : Opening) (l : Ledger) (dirty : Bool) (cells labels : List ℕ) (r 
 
   saved-whole : (i : ℕ) → i < n → cell_at (saved_cells (canvas_of o l dirty) cells) i ≡ whole i
   saved-whole i h =
-      saved-cell m l.last.character r.valid (picture_of o.columns l.before i) (in_cell m o.columns i l.last.dots) cells n i h r.cell_room (r.cell i h)
+      saved-cell m l.last.character r.valid (picture_of o.columns l.before i) (in_cell grid o.columns i l.last.dots) cells n i h r.cell_room (r.cell i h)
       ∙ ap pictured (sym (picture-snoc o.columns l.before l.last i))
 
   clean-whole : dirty ≡ false → (i : ℕ) → i < n → cell_at cells i ≡ whole i
@@ -144,11 +148,11 @@ module _ (o : Opening) (l : Ledger) (dirty : Bool) (cells labels : List ℕ) (r 
   clean-whole e i h =
       let p : LayerCell = picture_of o.columns l.before i in
       r.cell i h
-      ∙ ap (λ (dots : List Inked). foldl (painted_inked m) (before i) (in_cell m o.columns i dots)) (r.clean e)
-      ∙ ap pictured (ap (λ (dots : List Inked). laid_on (layer_sets m l.last.character o.columns dots i) p) (sym (r.clean e)) ∙ sym (picture-snoc o.columns l.before l.last i))
+      ∙ ap (λ (dots : List Inked). foldl (painted_inked grid) (before i) (in_cell grid o.columns i dots)) (r.clean e)
+      ∙ ap pictured (ap (λ (dots : List Inked). laid_on (layer_sets grid l.last.character o.columns dots i) p) (sym (r.clean e)) ∙ sym (picture-snoc o.columns l.before l.last i))
 
   length-saved : length (saved_cells (canvas_of o l dirty) cells) ≡ length cells
-  length-saved = length-each cleared_cell _ n ∙ length-each (saved_cell m _) cells n
+  length-saved = length-each cleared_cell _ n ∙ length-each (saved_cell grid _) cells n
 
   pub rendered-whole : (i : ℕ) → i < n → cell_at (rendered_cells (canvas_of o l dirty) cells) i ≡ whole i
   rendered-whole i h = go dirty refl
@@ -213,7 +217,7 @@ module _ (o : Opening) (l : Ledger) (dirty : Bool) (cells labels : List ℕ) (r 
       go true = length-saved
       go false = length-each cleared_cell cells n
 
-  print-keeps : (x y : Float) (text : List ℕ) (choice : Choice) → refusal_in o l (print x y text choice) ≡ 0
+  print-keeps : (x y : Float) (text : List ℕ) (choice : Option ℕ) → refusal_in o l (print x y text choice) ≡ 0
       → Simulated o (accepted_on (state_of o l dirty cells labels) (print x y text choice)) (accepted o l (print x y text choice))
   unfolding painted_in
   print-keeps x y text choice e =
@@ -240,10 +244,10 @@ module _ (o : Opening) (l : Ledger) (dirty : Bool) (cells labels : List ℕ) (r 
     accepted-keeps c e = go c (cond-none l.closed 5 _ e).1 e
       where
         some : {c : Call} → Paints c → refusal o l.draws (length l.labels) m c ≡ 0
-            → Simulated o (with_cells (state_of o l dirty cells labels) (drawn_canvas (canvas_of o l dirty) (length (dots_on (canvas_of o l dirty) c))) (paint_dots m o.columns o.rows (suc (ink_of c)) cells (dots_on (canvas_of o l dirty) c))) (with_dots l (added_dots o m c))
+            → Simulated o (with_cells (state_of o l dirty cells labels) (drawn_canvas (canvas_of o l dirty) (length (dots_on (canvas_of o l dirty) c))) (paint_dots grid o.columns o.rows (suc (ink_of c)) cells (dots_on (canvas_of o l dirty) c))) (with_dots l (added_dots o m c))
         some {c} p f =
             draw-keeps (ink_of c) (dots_on (canvas_of o l dirty) c) (paints-room o l.draws (length l.labels) m p f)
-            (few-dots o.bounds o.columns o.rows m c (size-within o good).0 (size-within o good).1 (paints-few o l.draws (length l.labels) m p f))
+            (few-dots o.bounds o.columns o.rows grid c (size-within o good).0 (size-within o good).1 (paints-few o l.draws (length l.labels) m p f))
 
         go : (c : Call) → refusal o l.draws (length l.labels) m c ≡ 0 → refusal_in o l c ≡ 0 → Simulated o (accepted_on (state_of o l dirty cells labels) c) (accepted o l c)
         go (draw shape colour) f e = some (by-draw shape colour) f

@@ -1,16 +1,21 @@
 -- A label written byte by byte from the words of its store is the label of that store, written; and the cells of the labels held.
 use mathlib.Core.Path.{◌≡◌, refl, sym, ap, ap₂, ◌∙◌}
+use mathlib.Core.Bool.{false}
 use mathlib.Core.List.{List, [], ◌∷◌, ◌++◌}
-use Prim.Native.Nat.{ℕ, zero, suc, ◌+◌, ◌-◌, ◌*◌, ◌%◌, ◌^◌, ◌≤◌, ◌<◌, min}
+use Prim.Native.Nat.{ℕ, zero, suc, ◌+◌, ◌-◌, ◌*◌, ◌/◌, ◌%◌, ◌^◌, ◌≤◌, ◌<◌, min}
 use native.Mathlib.Omega.{arith}
+use native.Mathlib.Nat.{add_assoc}
 use native.Mathlib.Numerals.{add-one}
-use lib.ListN.{length, get_or}
+use lib.ListN.{length, get_or, take, drop, length-take, length-drop}
+use Rattle.std.proofs.lemmas.List.{get_or-take, get_or-drop}
 use Rattle.grids.specs.Lists.{foldl}
+use Rattle.ledger.specs.Calls.{passes_edge, bad_screen}
 use Rattle.ledger.specs.Screen.{ScreenCell, cell_on, put_on, or_else, Placed}
 use Rattle.ledger.specs.Labels.{place_of, words_from, label_at, held_labels}
-use Rattle.ledger.specs.Model.{puts, spot, fitting, fitting_at, column_of, row_of, written_label, label_cells}
+use Rattle.ledger.specs.Model.{puts, spot, fitting, fitting_at, column_of, row_of, lettered, written_label, label_cells}
 use Rattle.ledger.specs.declared.state.Canvas.{Canvas}
 use Rattle.ledger.specs.declared.screen.Area.{Area}
+use Rattle.ledger.proofs.Spots.{spot-next, spot-in-screen}
 use Rattle.ledger.proofs.Fitting.{fitting-byte, fitting-at-most}
 
 -- ---- words read one after the other
@@ -26,7 +31,7 @@ word-from labels i (suc n) (suc j) h = let e : i + suc j ≡ suc i + j = omega a
 
 -- ---- puts
 
-puts-same : (at at' : ℕ → ℕ) (become become' : ℕ → ScreenCell → ScreenCell) (words : List ℕ) (n : ℕ)
+pub puts-same : (at at' : ℕ → ℕ) (become become' : ℕ → ScreenCell → ScreenCell) (words : List ℕ) (n : ℕ)
     → ((j : ℕ) → j < n → at j ≡ at' j) → ((j : ℕ) → j < n → (old : ScreenCell) → become j old ≡ become' j old)
     → puts at become words n ≡ puts at' become' words n
 puts-same at at' become become' words zero e f = refl
@@ -48,29 +53,87 @@ row-of zero row h = absurd (omega arith)
 row-of (suc column) row h = refl
 
 -- a byte of a label, over what was there
-abbrev pub byte_over : List ℕ → ℕ → ℕ → ℕ → ScreenCell → ScreenCell
-byte_over labels at word j old = record { symbol = get_or labels (at + 4 + j) 0; foreground = or_else word old.foreground; background = old.background }
+abbrev pub byte_of : List ℕ → ℕ → ℕ → ScreenCell → ScreenCell
+byte_of bytes word j old = record { symbol = get_or bytes j 0; foreground = or_else word old.foreground; background = old.background }
+
+-- the words of the label k, and of these the first n bytes
+abbrev pub label_part : List ℕ → ℕ → List ℕ
+label_part labels k = take (k * 44 + 44 - k * 44) (drop (k * 44) labels)
+
+abbrev pub byte_part : List ℕ → ℕ → List ℕ
+byte_part part n = take (4 + n - 4) (drop 4 part)
 
 module _ (labels : List ℕ) (k : ℕ) (c : Canvas) where
-  -- `at` is where the label's words begin
-  pub fitting-of : (at : ℕ) → at ≡ k * 44 → fitting c (label_at labels k) ≡ fitting_at c.columns c.rows (place_of (get_or labels at 0) (get_or labels (at + 1) 0)) (min 40 (get_or labels (at + 3) 0))
-  unfolding label_at
-  fitting-of at e = rw (e, length-words labels (k * 44 + 4) (min 40 (get_or labels (k * 44 + 3) 0)))
+  abbrev at : ℕ
+  at = k * 44
 
-  written-here : (a : Area) (words : List ℕ)
-      → puts (λ j. spot a (get_or labels (k * 44) 0 - 1 + j) (get_or labels (k * 44 + 1) 0)) (byte_over labels (k * 44) (get_or labels (k * 44 + 2) 0)) words (fitting c (label_at labels k)) ≡ written_label c a words (label_at labels k)
+  pub fitting-of : fitting c (label_at labels k) ≡ fitting_at c.columns c.rows (place_of (get_or labels at 0) (get_or labels (at + 1) 0)) (min 40 (get_or labels (at + 3) 0))
   unfolding label_at
-  written-here a words = puts-same _ _ _ _ words (fitting c (label_at labels k))
-      (λ j h. let b = byte j h in ap₂ (λ (p q : ℕ). spot a (p + j) q) (column-of _ _ b.0) (row-of _ _ b.0))
-      (λ j h old i. record { symbol = sym (word-from labels (k * 44 + 4) _ j (byte j h).3) i; foreground = or_else (get_or labels (k * 44 + 2) 0) old.foreground; background = old.background })
-    where
-      byte : (j : ℕ) → j < fitting c (label_at labels k)
-          → (1 ≤ get_or labels (k * 44) 0) × (get_or labels (k * 44 + 1) 0 < c.rows) × (get_or labels (k * 44) 0 - 1 + j < c.columns) × (j < min 40 (get_or labels (k * 44 + 3) 0))
-      byte j h = fitting-byte c.columns c.rows _ _ _ j (rw (fitting-of (k * 44) refl) at h)
+  fitting-of = rw length-words
 
-  pub written-by-words : (at : ℕ) → at ≡ k * 44 → (a : Area) (words : List ℕ) (n : ℕ) → n ≡ fitting c (label_at labels k)
-      → puts (λ j. spot a (get_or labels at 0 - 1 + j) (get_or labels (at + 1) 0)) (byte_over labels at (get_or labels (at + 2) 0)) words n ≡ written_label c a words (label_at labels k)
-  written-by-words at e a words n f = rw (e, f) (written-here a words)
+  -- a byte that fits
+  fits : (j : ℕ) → j < fitting c (label_at labels k)
+      → (1 ≤ get_or labels at 0) × (get_or labels (at + 1) 0 < c.rows) × (get_or labels at 0 - 1 + j < c.columns) × (j < min 40 (get_or labels (at + 3) 0))
+  fits j h = fitting-byte c.columns c.rows _ _ _ j (rw fitting-of at h)
+
+  fitting-few : fitting c (label_at labels k) ≤ 40
+  fitting-few = rw fitting-of (omega (arith, fitting-at-most c.columns c.rows (get_or labels at 0) (get_or labels (at + 1) 0) (min 40 (get_or labels (at + 3) 0))))
+
+  module _ (room : at + 44 ≤ length labels) where
+    abbrev part : List ℕ
+    part = label_part labels k
+
+    word-of : (i : ℕ) → i < 44 → get_or part i 0 ≡ get_or labels (at + i) 0
+    word-of i h = let e : at + 44 - at ≡ 44 = omega arith in rw (e, get_or-take, get_or-drop)
+
+    first_word : get_or part 0 0 ≡ get_or labels at 0
+    first_word = let e : at + 0 ≡ at = omega arith in word-of 0 (omega arith) ∙ rw e
+
+    long : length part ≡ 44
+    long = simp (length-take, length-drop) (omega arith)
+
+    pub fitting-by : fitting_at c.columns c.rows (place_of (get_or part 0 0) (get_or part 1 0)) (min (get_or part 3 0) 40) ≡ fitting c (label_at labels k)
+    fitting-by =
+        let e : min (get_or labels (at + 3) 0) 40 ≡ min 40 (get_or labels (at + 3) 0) = omega arith in
+        rw (first_word, word-of 1 (omega arith), word-of 3 (omega arith), e) (sym fitting-of)
+
+    length-bytes : (n : ℕ) → n ≡ fitting c (label_at labels k) → length (byte_part part n) ≡ n
+    length-bytes n e = let l = long in let f = fitting-few in simp (length-take, length-drop) (omega arith)
+
+    byte-of : (n j : ℕ) → n ≡ fitting c (label_at labels k) → j < n → get_or (byte_part part n) j 0 ≡ get_or labels (at + 4 + j) 0
+    byte-of n j e h =
+        let f = fitting-few in
+        let d : 4 + n - 4 ≡ n = omega arith in
+        let t : get_or (byte_part part n) j 0 ≡ get_or part (4 + j) 0 = rw (d, get_or-take n (drop 4 part) j 0 h, get_or-drop 4 part j 0) in
+        t ∙ word-of (4 + j) (omega (arith, f)) ∙ rw add_assoc
+
+    pub written-by : (a : Area) (words : List ℕ) (n : ℕ) → n ≡ fitting c (label_at labels k)
+        → puts (λ j. spot a (get_or part 0 0 - 1) (get_or part 1 0) + j) (byte_of (byte_part part n) (get_or part 2 0)) words (length (byte_part part n)) ≡ written_label c a words (label_at labels k)
+    unfolding label_at
+    written-by a words n e =
+        rw (length-bytes n e, first_word, word-of 1 (omega arith), word-of 2 (omega arith), e)
+        (puts-same _ _ _ _ words (fitting c (label_at labels k))
+        (λ j h. let b = fits j h in spot-next a (get_or labels at 0 - 1) (get_or labels (at + 1) 0) j ∙ ap₂ (λ (p q : ℕ). spot a (p + j) q) (column-of _ _ b.0) (row-of _ _ b.0))
+        (λ j h old i. record {
+          symbol = (byte-of (fitting c (label_at labels k)) j refl h ∙ sym (word-from labels (at + 4) _ j (fits j h).3)) i;
+          foreground = or_else (get_or labels (at + 2) 0) old.foreground;
+          background = old.background;
+        }))
+
+    -- the bytes that fit are on the screen: one that is not has none
+    label-in-screen : (a : Area) (words : List ℕ) (n : ℕ) → passes_edge c.columns c.rows a ≡ false → bad_screen a words ≡ false → n ≡ fitting c (label_at labels k) → 0 < n
+        → spot a (get_or part 0 0 - 1) (get_or part 1 0) + length (byte_part part n) ≤ length words / 3
+    label-in-screen a words n edge good e some =
+        let b = fits (n - 1) (omega arith) in
+        let p = spot-next a (get_or labels at 0 - 1) (get_or labels (at + 1) 0) (n - 1) in
+        rw (length-bytes n e, first_word, word-of 1 (omega arith)) (omega (arith, p, spot-in-screen c.columns c.rows a words edge good _ _ b.2 b.1))
+
+    pub label-off : (a : Area) (words : List ℕ) (n : ℕ) → passes_edge c.columns c.rows a ≡ false → bad_screen a words ≡ false → n ≡ fitting c (label_at labels k)
+        → length words / 3 < spot a (get_or part 0 0 - 1) (get_or part 1 0) + length (byte_part part n) → words ≡ written_label c a words (label_at labels k)
+    label-off a words zero edge good e beyond =
+        let l = label_at labels k in
+        ap (λ (n : ℕ). puts (λ j. spot a (column_of l.place + j) (row_of l.place)) (lettered l) words n) e
+    label-off a words (suc n) edge good e beyond = absurd (omega (arith, beyond, label-in-screen a words (suc n) edge good e (omega arith)))
 
 -- ---- the labels held
 
@@ -87,7 +150,7 @@ module _ (c : Canvas) (labels : List ℕ) where
   label-cells-next k = label-cells-snoc c (held_labels labels k) (label_at labels k)
 
   fitting-at-most-40 : (k : ℕ) → fitting c (label_at labels k) ≤ 40
-  fitting-at-most-40 k = rw (fitting-of labels k c (k * 44) refl) (omega (arith, fitting-at-most c.columns c.rows (get_or labels (k * 44) 0) (get_or labels (k * 44 + 1) 0) (min 40 (get_or labels (k * 44 + 3) 0))))
+  fitting-at-most-40 k = fitting-few labels k c
 
   label-cells-at-most : (k : ℕ) → label_cells c (held_labels labels k) ≤ 40 * k
   label-cells-at-most zero = omega arith

@@ -1,11 +1,12 @@
 -- The calls on a canvas with their arguments, and the conditions on which each is refused: document 01, 'Calls and refusals, in order'.
-use Rattle.std.specs.Prelude.{ℕ, ◌+◌, ◌*◌, Bool, false, not, ◌&&◌, ◌||◌, List, [], ◌∷◌, eqb, ltb, leb, Float, length}
+use Rattle.std.specs.Prelude.{ℕ, ◌+◌, ◌*◌, Bool, false, not, ◌&&◌, ◌||◌, List, [], ◌∷◌, eqb, ltb, leb, Float, length, Option, Some, None}
+use Rattle.std.specs.List.{list_any}
 use Rattle.floats.specs.Domain.{in_domain}
 use Rattle.walk.specs.declared.clip.Bounds.{Bounds}
 use Rattle.walk.specs.declared.clip.Segment.{Segment}
 use Rattle.walk.specs.declared.bresenham.Dot.{Dot}
 use Rattle.grids.specs.Lists.{first}
-use Rattle.grids.specs.Markers.{is_marker, is_half_block}
+use Rattle.grids.specs.Markers.{marker_of, is_marker, is_half_block}
 use Rattle.view.specs.Limits.{max_columns, max_rows, max_draws, max_pairs, max_labels, max_text, reset, cell_words, label_words, screen_words}
 use Rattle.lines.specs.Painted.{dot_at}
 use Rattle.shapes.specs.Shapes.{pair_dots}
@@ -14,8 +15,6 @@ use Rattle.shapes.specs.Drawing.{shape_dots}
 use Rattle.view.specs.declared.point.View.{View}
 use Rattle.shapes.specs.declared.painters.Shape.{Shape}
 use Rattle.shapes.specs.declared.painters.Shape.TheVariants.{Line, FilledLine, Rectangle, Circle}
-use Rattle.ledger.specs.declared.labels.Choice.{Choice}
-use Rattle.ledger.specs.declared.labels.Choice.TheVariants.{Nothing, Colour}
 use Rattle.ledger.specs.declared.screen.Area.{Area}
 
 -- the arguments of an opening
@@ -34,7 +33,7 @@ pub data Call : Type 0 where
   dot : ℕ → ℕ → ℕ → Call
   layer : Call
   marker : ℕ → ℕ → Call
-  print : Float → Float → List ℕ → Choice → Call
+  print : Float → Float → List ℕ → Option ℕ → Call
   render : Area → List ℕ → Call
 
 -- ---- the conditions
@@ -67,19 +66,18 @@ bad_pairs (p ∷ pairs) = bad_point p.x p.y || bad_pairs pairs
 
 -- '9 outside a HalfBlock grid', which has two rows of dots a cell
 unfoldable pub outside_grid : ℕ → ℕ → ℕ → ℕ → ℕ → Bool
-outside_grid m columns rows column row = is_half_block m && not (ltb column columns && ltb row (rows * 2))
+outside_grid m columns rows column row = is_half_block (marker_of m) && not (ltb column columns && ltb row (rows * 2))
 
-abbrev pub bad_choice : Choice → Bool
-bad_choice Nothing = false
-bad_choice (Colour colour) = bad_colour colour
+abbrev pub bad_choice : Option ℕ → Bool
+bad_choice None = false
+bad_choice (Some colour) = bad_colour colour
 
 -- '10 text over 40 bytes or a byte outside 20 to 7E'
 abbrev pub bad_byte : ℕ → Bool
 bad_byte byte = ltb byte 0x20 || ltb 0x7E byte
 
 unfoldable pub bad_bytes : List ℕ → Bool
-bad_bytes [] = false
-bad_bytes (byte ∷ text) = bad_byte byte || bad_bytes text
+bad_bytes text = list_any bad_byte text
 
 abbrev pub bad_text : List ℕ → Bool
 bad_text text = ltb max_text (length text) || bad_bytes text

@@ -1,22 +1,20 @@
 -- The label store: 44 words a label. Its column + 1, or 0 where it is outside the bounds; its row; its colour's word; its length; 40 bytes.
-use Rattle.std.specs.Prelude.{ℕ, zero, suc, ◌+◌, ◌*◌, min, List, [], ◌∷◌, ◌++◌, length, get_or}
+use Rattle.std.specs.Prelude.{ℕ, zero, suc, ◌+◌, ◌*◌, min, List, [], ◌∷◌, ◌++◌, length, get_or, Option, Some, None}
 use Rattle.std.proofs.lemmas.List.Edits.{sets}
 use Rattle.view.specs.Limits.{max_text, label_words}
 use Rattle.ledger.specs.Screen.{Placed}
-use Rattle.view.specs.declared.point.Found.{Found}
-use Rattle.view.specs.declared.point.Found.TheVariants.{At, Nowhere}
 
-abbrev pub column_word : Found → ℕ
-column_word Nowhere = 0
-column_word (At column row) = suc column
+abbrev pub column_word : Option (ℕ × ℕ) → ℕ
+column_word None = 0
+column_word (Some (column, row)) = suc column
 
-abbrev pub row_word : Found → ℕ
-row_word Nowhere = 0
-row_word (At column row) = row
+abbrev pub row_word : Option (ℕ × ℕ) → ℕ
+row_word None = 0
+row_word (Some (column, row)) = row
 
-abbrev pub place_of : ℕ → ℕ → Found
-place_of zero row = Nowhere
-place_of (suc column) row = At column row
+abbrev pub place_of : ℕ → ℕ → Option (ℕ × ℕ)
+place_of zero row = None
+place_of (suc column) row = Some (column, row)
 
 -- n words from the place i on
 abbrev pub words_from : List ℕ → ℕ → ℕ → List ℕ

@@ -1,6 +1,7 @@
 -- Document 01, 'The ledger': fed the arguments of an accepted opening and of the calls after it, and nothing of the canvas or the stores.
-use Rattle.std.specs.Prelude.{ℕ, zero, suc, ◌+◌, ◌-◌, ◌*◌, ◌/◌, ◌%◌, Bool, true, false, cond, List, [], ◌∷◌, ◌++◌, map, Float, length}
+use Rattle.std.specs.Prelude.{ℕ, zero, suc, ◌+◌, ◌-◌, ◌*◌, ◌/◌, ◌%◌, Bool, true, false, cond, List, [], ◌∷◌, ◌++◌, map, Float, length, Option, Some, None}
 use Rattle.grids.specs.Lists.{last_word}
+use Rattle.grids.specs.Markers.{marker_of}
 use Rattle.grids.specs.Dots.{Inked, layer_sets}
 use Rattle.grids.specs.Painting.{inked}
 use Rattle.grids.specs.declared.layer.LayerCell.{LayerCell}
@@ -8,8 +9,6 @@ use Rattle.view.specs.Point.{label_place, view_of}
 use Rattle.lines.specs.Painted.{flat}
 use Rattle.ledger.specs.Screen.{ScreenCell, cell_on, layered, Placed, labelled, in_area}
 use Rattle.ledger.specs.Calls.{Opening, Call, draw, points, dot, layer, marker, print, render, refusal, call_dots}
-use Rattle.ledger.specs.declared.labels.Choice.{Choice}
-use Rattle.ledger.specs.declared.labels.Choice.TheVariants.{Nothing, Colour}
 use Rattle.ledger.specs.declared.screen.Area.{Area}
 
 -- 'layers (marker, character, list of coloured dots)'
@@ -23,7 +22,7 @@ pub record Label : Type 0 where
   pub x : Float
   pub y : Float
   pub text : List ℕ
-  pub choice : Choice
+  pub choice : Option ℕ
 
 -- 'It holds layers ..., labels, and the number of accepted draws and dots'; the last layer stands by itself, and `closed` says that a render was accepted
 pub record Ledger : Type 0 where
@@ -47,7 +46,7 @@ opened o = record { before = []; last = empty_layer o.marker o.character; labels
 
 -- what each layer sets in the cell i; the last one that sets a word decides it
 abbrev pub layer_at : ℕ → ℕ → Layer → LayerCell
-layer_at columns i l = layer_sets l.marker l.character columns l.dots i
+layer_at columns i l = layer_sets (marker_of l.marker) l.character columns l.dots i
 
 unfoldable pub picture_of : ℕ → List Layer → ℕ → LayerCell
 picture_of columns ls i = record {
@@ -56,9 +55,9 @@ picture_of columns ls i = record {
   background = last_word (λ l. (layer_at columns i l).background) ls;
 }
 
-abbrev pub choice_word : Choice → ℕ
-choice_word Nothing = 0
-choice_word (Colour colour) = suc colour
+abbrev pub choice_word : Option ℕ → ℕ
+choice_word None = 0
+choice_word (Some colour) = suc colour
 
 abbrev pub placed_of : Opening → Label → Placed
 placed_of o l = record { place = label_place o.bounds o.columns o.rows l.x l.y; word = choice_word l.choice; text = l.text }
@@ -112,7 +111,7 @@ ink_of (print x y text choice) = 0
 ink_of (render area words) = 0
 
 abbrev pub added_dots : Opening → ℕ → Call → List Inked
-added_dots o m c = inked (ink_of c) (call_dots (view_of o.bounds o.columns o.rows m) c)
+added_dots o m c = inked (ink_of c) (call_dots (view_of o.bounds o.columns o.rows (marker_of m)) c)
 
 abbrev pub accepted : Opening → Ledger → Call → Ledger
 accepted o l (draw shape colour) = with_dots l (added_dots o l.last.marker (draw shape colour))

@@ -4,6 +4,8 @@ pub mod Screen
 pub mod Labels
 pub mod Ledger
 pub mod Model
+pub mod Answer
+pub mod Pointed
 pub mod Outcomes
 pub mod PointCall
 pub mod Promise

@@ -1,10 +1,10 @@
 -- What each call gives for every canvas and every store: the answer, the canvas and the lent lists after it. The contracts of the code say: equal to these.
-use Rattle.std.specs.Prelude.{ℕ, zero, suc, ◌+◌, ◌-◌, ◌*◌, ◌/◌, ◌%◌, ◌^◌, min, Bool, true, false, cond, not, ◌||◌, List, [], ◌∷◌, ltb, Float, length, get_or}
+use Rattle.std.specs.Prelude.{ℕ, zero, suc, ◌+◌, ◌-◌, ◌*◌, ◌/◌, ◌%◌, ◌^◌, min, Bool, true, false, cond, not, ◌||◌, List, [], ◌∷◌, ltb, Float, length, get_or, Option, Some, None}
 use Rattle.floats.specs.Arithmetic.{bits}
 use Rattle.walk.specs.declared.clip.Bounds.{Bounds}
 use Rattle.walk.specs.declared.bresenham.Dot.{Dot}
 use Rattle.grids.specs.Lists.{foldl}
-use Rattle.grids.specs.Markers.{is_marker}
+use Rattle.grids.specs.Markers.{marker_of, is_marker}
 use Rattle.grids.specs.Cells.{cell_at}
 use Rattle.grids.specs.Painting.{paint_dots}
 use Rattle.grids.specs.Layer.{save_of, reset_of, blank_of}
@@ -16,9 +16,6 @@ use Rattle.ledger.specs.Labels.{put_label, held_labels}
 use Rattle.grids.specs.Lists.{first}
 use Rattle.ledger.specs.Calls.{Opening, Call, draw, points, dot, layer, marker, print, render, bad_size, bad_bounds, bad_colour, refusal, open_refusal, call_dots}
 use Rattle.ledger.specs.Ledger.{choice_word, ink_of, unless, reply_unless, Reply, painted, done, shown}
-use Rattle.view.specs.declared.point.Found.{Found}
-use Rattle.view.specs.declared.point.Found.TheVariants.{At, Nowhere}
-use Rattle.ledger.specs.declared.labels.Choice.{Choice}
 use Rattle.ledger.specs.declared.screen.Area.{Area}
 use Rattle.ledger.specs.declared.state.Canvas.{Canvas}
 
@@ -102,7 +99,7 @@ open_canvas o cells labels = unless (open_refusal o (length cells) labels) zero_
 -- ---- Draw, Points and Dot: the dots painted in their colour; 'Any accepted draw marks the layer dirty, even one with no dot'
 
 abbrev pub dots_on : Canvas → Call → List Dot
-dots_on c call = call_dots (view_of c.bounds c.columns c.rows c.marker) call
+dots_on c call = call_dots (view_of c.bounds c.columns c.rows (marker_of c.marker)) call
 
 abbrev pub drawn_canvas : Canvas → ℕ → Canvas
 drawn_canvas c n = record {
@@ -120,12 +117,12 @@ drawn_canvas c n = record {
 }
 
 abbrev pub drawn_cells : State → Call → List ℕ
-drawn_cells s call = paint_dots s.canvas.marker s.canvas.columns s.canvas.rows (suc (ink_of call)) s.cells (dots_on s.canvas call)
+drawn_cells s call = paint_dots (marker_of s.canvas.marker) s.canvas.columns s.canvas.rows (suc (ink_of call)) s.cells (dots_on s.canvas call)
 
 -- ---- Layer, Marker and the saving of a dirty layer
 
 abbrev pub laid_cells : Canvas → List ℕ → List ℕ
-laid_cells c cells = save_of c.marker (c.character % 2 ^ 21) cells (cell_count c)
+laid_cells c cells = save_of (marker_of c.marker) (c.character % 2 ^ 21) cells (cell_count c)
 
 abbrev pub saved_cells : Canvas → List ℕ → List ℕ
 saved_cells c cells = reset_of (laid_cells c cells) (cell_count c)
@@ -181,7 +178,7 @@ printed_canvas c = record {
   painted = c.painted;
 }
 
-abbrev pub label_on : Canvas → Float → Float → List ℕ → Choice → Placed
+abbrev pub label_on : Canvas → Float → Float → List ℕ → Option ℕ → Placed
 label_on c x y text choice = record { place = label_place c.bounds c.columns c.rows x y; word = choice_word choice; text = text }
 
 -- ---- Render
@@ -221,20 +218,20 @@ abbrev pub laid_screen : Canvas → List ℕ → Area → List ℕ → List ℕ
 laid_screen c cells a words = puts (λ k. spot a (k % c.columns) (k / c.columns)) (λ k. layered c.background (picture_at cells k)) words (cell_count c)
 
 -- a label's bytes 'up to the area's right edge', and none outside the bounds
-abbrev pub fitting_at : ℕ → ℕ → Found → ℕ → ℕ
-fitting_at columns rows Nowhere n = 0
-fitting_at columns rows (At column row) n = cond (ltb row rows) (min n (columns - column)) 0
+abbrev pub fitting_at : ℕ → ℕ → Option (ℕ × ℕ) → ℕ → ℕ
+fitting_at columns rows None n = 0
+fitting_at columns rows (Some (column, row)) n = cond (ltb row rows) (min n (columns - column)) 0
 
 abbrev pub fitting : Canvas → Placed → ℕ
 fitting c l = fitting_at c.columns c.rows l.place (length l.text)
 
-abbrev pub column_of : Found → ℕ
-column_of Nowhere = 0
-column_of (At column row) = column
+abbrev pub column_of : Option (ℕ × ℕ) → ℕ
+column_of None = 0
+column_of (Some (column, row)) = column
 
-abbrev pub row_of : Found → ℕ
-row_of Nowhere = 0
-row_of (At column row) = row
+abbrev pub row_of : Option (ℕ × ℕ) → ℕ
+row_of None = 0
+row_of (Some (column, row)) = row
 
 abbrev pub lettered : Placed → ℕ → ScreenCell → ScreenCell
 lettered l k old = record { symbol = get_or l.text k 0; foreground = or_else l.word old.foreground; background = old.background }

@@ -2,6 +2,7 @@
 use Rattle.std.specs.Prelude.{ℕ, zero, suc, List, [], length}
 use Rattle.ledger.specs.Screen.{ScreenCell}
 use Rattle.ledger.specs.Labels.{held_labels}
+use Rattle.grids.specs.Markers.{marker_of}
 use Rattle.view.specs.Point.{view_of}
 use Rattle.ledger.specs.Calls.{Opening, Call, draw, points, dot, layer, marker, print, render, refusal, open_refusal}
 use Rattle.ledger.specs.Ledger.{Reply, refused, painted, done, shown, unless}
@@ -9,9 +10,7 @@ use Rattle.ledger.specs.Model.{State, opening_of, state_refusal, or_refusal, ref
 use Rattle.ledger.specs.declared.screen.Area.{Area}
 use Rattle.lines.specs.declared.painter.Painter.{Painter}
 use Rattle.ledger.specs.declared.state.Canvas.{Canvas}
-use Rattle.ledger.specs.declared.state.Answer.{Answer}
-use Rattle.ledger.specs.declared.state.Answer.TheVariants.{Refused, Painted, Done, Rendered}
-use Rattle.ledger.specs.declared.state.Called.{Called}
+use Rattle.ledger.specs.Answer.{Answer, Refused, Painted, Done, Rendered, Called}
 
 -- the canvas with the lent stores
 abbrev pub given : Canvas → List ℕ → List ℕ → State
@@ -70,4 +69,6 @@ reply_of (Rendered n labels) cells = shown cells n
 -- ---- steps of a draw
 
 abbrev pub painter_of : Canvas → ℕ → Painter
-painter_of c colour = record { view = view_of c.bounds c.columns c.rows c.marker; columns = c.columns; rows = c.rows; marker = c.marker; word = suc colour }
+painter_of c colour =
+    let marker = marker_of c.marker in
+    record { view = view_of c.bounds c.columns c.rows marker; columns = c.columns; rows = c.rows; marker = marker; word = suc colour }

@@ -1,8 +1,6 @@
 -- Demand 3 as one claim about a whole list of calls from an accepted opening to the first accepted render, refused ones included: document 01, 'The ledger'.
-use Rattle.std.specs.Prelude.{◌≡◌, Bool, true, false, cond, List, [], ◌∷◌, ◌++◌, ℕ, ◌+◌, ◌≤◌, length}
+use Rattle.std.specs.Prelude.{◌≡◌, Bool, true, false, cond, List, [], ◌∷◌, ◌++◌, ℕ, ◌+◌, ◌≤◌, length, Option, Some, None}
 use Rattle.grids.specs.Lists.{keep}
-use Rattle.view.specs.declared.point.Found.{Found}
-use Rattle.view.specs.declared.point.Found.TheVariants.{At, Nowhere}
 use Rattle.ledger.specs.Screen.{ScreenCell, cell_on, Placed}
 use Rattle.ledger.specs.Calls.{Opening, Call, draw, points, dot, layer, marker, print, render, open_refusal}
 use Rattle.ledger.specs.Ledger.{opened, Reply, refused, painted, done, shown, ledger_replies}
@@ -77,9 +75,9 @@ is_print (print x y text choice) = true
 is_print (render area words) = false
 
 -- the lengths of the labels that have a place, together
-abbrev pub length_at : Found → ℕ → ℕ
-length_at Nowhere n = 0
-length_at (At column row) n = n
+abbrev pub length_at : Option (ℕ × ℕ) → ℕ → ℕ
+length_at None n = 0
+length_at (Some (column, row)) n = n
 
 abbrev pub shown_lengths : List Placed → ℕ
 shown_lengths [] = 0

@@ -1,9 +1,7 @@
 -- Cells of the screen, three plain words each, and labels on it: document 01, 'Layers, labels, render'.
-use Rattle.std.specs.Prelude.{ℕ, zero, suc, ◌+◌, ◌-◌, ◌*◌, ◌/◌, ◌%◌, Bool, false, cond, ◌&&◌, List, eqb, ltb, leb, length, get_or, set}
+use Rattle.std.specs.Prelude.{ℕ, zero, suc, ◌+◌, ◌-◌, ◌*◌, ◌/◌, ◌%◌, Bool, false, cond, ◌&&◌, List, eqb, ltb, leb, length, get_or, set, Option, Some, None}
 use Rattle.grids.specs.Lists.{last_word}
 use Rattle.grids.specs.declared.layer.LayerCell.{LayerCell}
-use Rattle.view.specs.declared.point.Found.{Found}
-use Rattle.view.specs.declared.point.Found.TheVariants.{At, Nowhere}
 use Rattle.ledger.specs.declared.screen.Area.{Area}
 -- 'A cell is a symbol (Unicode scalar value) and two colours.'
 pub use Rattle.ledger.specs.declared.screen.ScreenCell.{ScreenCell}
@@ -30,21 +28,21 @@ layered background p old = record {
 
 -- a label in its place: its colour is a word, 0 for none
 pub record Placed : Type 0 where
-  pub place : Found
+  pub place : Option (ℕ × ℕ)
   pub word : ℕ
   pub text : List ℕ
 
 -- whether it has a byte at a column and row of the area: 'one byte a cell'
-abbrev pub covers_at : Found → ℕ → ℕ → ℕ → Bool
-covers_at Nowhere n column row = false
-covers_at (At c r) n column row = eqb r row && (leb c column && ltb (column - c) n)
+abbrev pub covers_at : Option (ℕ × ℕ) → ℕ → ℕ → ℕ → Bool
+covers_at None n column row = false
+covers_at (Some (c, r)) n column row = eqb r row && (leb c column && ltb (column - c) n)
 
 abbrev pub covers : Placed → ℕ → ℕ → Bool
 covers l column row = covers_at l.place (length l.text) column row
 
-abbrev pub start_of : Found → ℕ
-start_of Nowhere = 0
-start_of (At c r) = c
+abbrev pub start_of : Option (ℕ × ℕ) → ℕ
+start_of None = 0
+start_of (Some (c, r)) = c
 
 abbrev pub label_symbol : ℕ → ℕ → Placed → ℕ
 label_symbol column row l = cond (covers l column row) (suc (get_or l.text (column - start_of l.place) 0)) 0

@@ -3,6 +3,5 @@
 // the definitions speak of.
 #![tactic(auto)]
 
-pub mod labels; // labels.rt: a label's colour
 pub mod screen; // screen.rt: the screen's area and cells
-pub mod state; // state.rt: the canvas and the answers
+pub mod state; // state.rt: the canvas

@@ -1,14 +1,17 @@
 // The conditions on which a canvas, a size, bounds, a colour, a point, a shape or a dot is refused: document
 // 01, 'Calls and refusals, in order'.
-ghost use Rattle.std.specs.Prelude.{◌≡◌, leb};
+ghost use Rattle.std.specs.Prelude.{◌≡◌, ◌&&◌, leb};
+ghost use Rattle.refusals.specs.Refusals.{number_in};
+ghost use Rattle.floats.specs.Domain.{in_domain};
 ghost use Rattle.view.specs.Limits.{max_draws};
 ghost use Rattle.ledger.specs.Calls.{bad_size, bad_bounds, bad_colour, bad_segment, bad_shape, bad_point, outside_grid};
 ghost use Rattle.ledger.specs.Model.{bad_canvas, short_stores, state_refusal};
 
 use floats::domain::in_domain;
-use grids::markers::is_marker;
+use grids::markers::{Marker, is_marker};
 use grids::painting::cell_count;
 use ledger::state::Canvas;
+use refusals::refusal::Refusal;
 use shapes::painters::Shape;
 use walk::clip::{Bounds, Segment};
 
@@ -19,11 +22,17 @@ pub fn is_bad_size(columns: u16, rows: u16) -> bool
     !(((columns >= 1) & (columns <= 200)) & ((rows >= 1) & (rows <= 100)))
 }
 
+fn are_in_domain(a: f64, b: f64, c: f64, d: f64) -> bool
+    ensures { result ≡ ((in_domain a && in_domain b) && (in_domain c && in_domain d)) }
+{
+    (in_domain(a) & in_domain(b)) & (in_domain(c) & in_domain(d))
+}
+
 // A bound outside the domain.
 pub fn is_bad_bounds(b: Bounds) -> bool
     ensures { result ≡ bad_bounds b }
 {
-    !((in_domain(b.left) & in_domain(b.right)) & (in_domain(b.bottom) & in_domain(b.top)))
+    !are_in_domain(b.left, b.right, b.bottom, b.top)
 }
 
 // Above 16,777,216, Reset.
@@ -43,7 +52,7 @@ pub fn is_bad_point(x: f64, y: f64) -> bool
 fn is_bad_segment(s: Segment) -> bool
     ensures { result ≡ bad_segment s }
 {
-    !((in_domain(s.x1) & in_domain(s.y1)) & (in_domain(s.x2) & in_domain(s.y2)))
+    !are_in_domain(s.x1, s.y1, s.x2, s.y2)
 }
 
 // A shape with a number outside the domain.
@@ -53,18 +62,17 @@ pub fn is_bad_shape(shape: Shape) -> bool
     match shape {
         Shape::Line(s) => is_bad_segment(s),
         Shape::FilledLine(s, fill_to_y) => is_bad_segment(s) | !in_domain(fill_to_y),
-        Shape::Rectangle(x, y, width, height) => {
-            !((in_domain(x) & in_domain(y)) & (in_domain(width) & in_domain(height)))
-        }
+        Shape::Rectangle(x, y, width, height) => !are_in_domain(x, y, width, height),
         Shape::Circle(x, y, radius) => !((in_domain(x) & in_domain(y)) & in_domain(radius)),
     }
 }
 
-// A dot outside a HalfBlock grid.
+// A dot outside a HalfBlock grid, by the marker's number in the canvas.
 pub fn is_outside_grid(marker: u8, columns: u16, rows: u16, column: u32, row: u32) -> bool
     ensures { result ≡ outside_grid marker columns rows column row }
 {
-    (marker == 5) & !((column < columns as u32) & (row < (rows as u32) * 2))
+    (Marker::from(marker) == Marker::HalfBlock)
+        & !((column < u32::from(columns)) & (row < u32::from(rows) * 2))
 }
 
 // No draw or dot more is taken.
@@ -82,7 +90,7 @@ pub fn is_bad_canvas(c: Canvas) -> bool
     let bounds = is_bad_bounds(c.bounds);
     let colour = is_bad_colour(c.background);
     let marker = !is_marker(c.marker, c.character);
-    let painted = 160000 * (c.draws as u64) < c.painted;
+    let painted = 160000 * u64::from(c.draws) < c.painted;
     (((size | bounds) | colour) | marker) | (((c.draws > 65535) | (c.labels > 64)) | painted)
 }
 
@@ -94,17 +102,15 @@ pub fn is_short(c: Canvas, cells: usize, labels: usize) -> bool
     (cells < n * 5) | (labels < 2816)
 }
 
-// What any call is refused on first: 5, then 6; 0 is none.
-pub fn state(c: Canvas, cells: usize, labels: usize) -> u8
-    ensures { result ≡ state_refusal c cells labels }
+// What any call is refused on first: 5, then 6.
+pub fn state(c: Canvas, cells: usize, labels: usize) -> Result<(), Refusal>
+    ensures { number_in result ≡ state_refusal c cells labels }
 {
-    let bad = is_bad_canvas(c);
-    let short = is_short(c, cells, labels);
-    if bad | short {
-        return 5;
+    if is_bad_canvas(c) | is_short(c, cells, labels) {
+        return Err(Refusal::Canvas);
     }
     if c.rendered {
-        return 6;
+        return Err(Refusal::Rendered);
     }
-    0
+    Ok(())
 }

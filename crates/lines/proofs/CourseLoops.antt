@@ -1,51 +1,30 @@
--- What the loops over a course share: its dots, or the column from each, painted one after the other; and that one test shows all its cells held.
-use Rattle.std.proofs.Common.{◌≡◌, ℕ, ◌+◌, ◌*◌, ◌/◌, ◌%◌, ◌^◌, ◌<◌, ◌≤◌, max, List, [], ◌∷◌, length, sym, refl, ap, ◌∙◌, subst, mul-le-mul_right, add-one, arith}
+-- One dot by the kind of grid, and a course whose cells are held: that one test shows them all held, and that its dots are the line's.
+use Rattle.std.proofs.Common.{◌≡◌, ℕ, ◌+◌, ◌*◌, ◌/◌, ◌%◌, ◌^◌, ◌<◌, ◌≤◌, max, List, [], ◌∷◌, length, get_or, sym, refl, ap, ◌∙◌, subst, mul-le-mul_right, arith}
 use Rattle.walk.specs.Line.{line_dots}
 use Rattle.walk.specs.Walk.{Fits16}
-use Rattle.walk.specs.Course.{course_of, course_dot, next_course, course_after, course_dots}
+use Rattle.walk.specs.Course.{course_of, course_dot, course_after, course_dots}
 use Rattle.walk.specs.declared.bresenham.Ends.{Ends}
 use Rattle.walk.specs.declared.bresenham.Dot.{Dot}
 use Rattle.walk.specs.declared.course.Course.{Course}
-use Rattle.walk.proofs.Tabulated.{length-tabulate}
-use Rattle.walk.proofs.CourseDots.{next-course, course-within, course-over}
+use Rattle.walk.proofs.Tabulated.{length-tabulate, get_or-tabulate}
+use Rattle.walk.proofs.CourseDots.{course-within, course-over}
+use Rattle.grids.specs.declared.markers.Marker.TheVariants.{Braille, HalfBlock}
 use Rattle.grids.specs.Markers.{by, dot_size}
 use Rattle.grids.specs.Painting.{cells_held, inked_cell, braille_dot, plain_dot, half_dot}
 use Rattle.grids.proofs.HalfCells.{half-paints}
 use Rattle.grids.proofs.InkedCells.{braille-paints, plain-paints, braille-inked-dot, plain-inked-dot}
-use Rattle.lines.specs.Painted.{flat}
-use Rattle.lines.specs.Painted.{painted_by}
+use Rattle.lines.specs.Painted.{Painted, painted_by}
 use Rattle.lines.specs.declared.painter.Painter.{Painter}
-use Rattle.lines.proofs.PaintedDots.{Painted, painted-then, flat-next}
-use Rattle.lines.proofs.DotLoops as loop
-
--- after k steps from c₀ its first k dots are painted over `before`
-abbrev pub Along : Painter → List ℕ → Course → ℕ → Course → List ℕ → Type 0
-Along p before c₀ = loop.Along (λ k. course_after k c₀) course_dot p before
-
-pub course-next : (p : Painter) (before between after : List ℕ) (c₀ c next : Course) (k : ℕ) (d : Dot) → Along p before c₀ k c between
-    → d ≡ course_dot c → after ≡ painted_by p between (d ∷ []) → next ≡ next_course c → Along p before c₀ (k + 1) next after
-course-next p before between after c₀ c next k d g e h s =
-    loop.along-next (λ i. course_after i c₀) course_dot p before between after c next k d g e h (next-course c₀ c next k g.1 s)
-
-pub course-end : (p : Painter) (before after : List ℕ) (c₀ c : Course) (n k : ℕ) → k ≡ n → Along p before c₀ k c after → after ≡ painted_by p before (course_dots c₀ n)
-course-end p before after c₀ c n k e g = rw (← e) g.2.1
-
--- the column from each dot, after one dot more
-pub fill-next : (p : Painter) (f : Dot → List Dot) (before between after : List ℕ) (c₀ c : Course) (k m n : ℕ) (d : Dot) → c ≡ course_after k c₀ → d ≡ course_dot c
-    → Painted p before (flat f (course_dots c₀ k)) m between → Painted p between (f d) n after → Painted p before (flat f (course_dots c₀ (k + 1))) (m + n) after
-fill-next p f before between after c₀ c k m n d s e g h =
-    rw (add-one, flat-next f (course_dots c₀ k) (course_dot (course_after k c₀)))
-    (painted-then p before between after (flat f (course_dots c₀ k)) (f (course_dot (course_after k c₀))) m n g (rw (e ∙ ap course_dot s) at h))
 
 -- ---- one dot, where `end` is the number of cells held
 module _ (p : Painter) (cells after : List ℕ) (end : ℕ) (d : Dot) (held : end ≡ cells_held cells p.columns p.rows) where
-  pub braille-dot : p.marker ≡ 1 → after ≡ braille_dot p.columns end cells d.column d.row p.word → after ≡ painted_by p cells (d ∷ [])
+  pub braille-dot : p.marker ≡ Braille → after ≡ braille_dot p.columns end cells d.column d.row p.word → after ≡ painted_by p cells (d ∷ [])
   braille-dot m h = h ∙ rw m (braille-paints p.columns p.rows cells d.column d.row p.word end held)
 
   pub plain-dot : dot_size p.marker ≡ by 1 1 → after ≡ plain_dot p.columns end cells d.column d.row p.word → after ≡ painted_by p cells (d ∷ [])
   plain-dot one h = h ∙ plain-paints p.marker one p.columns p.rows cells d.column d.row p.word end held
 
-  pub half-dot : p.marker ≡ 5 → after ≡ half_dot p.columns end cells d.column d.row p.word → after ≡ painted_by p cells (d ∷ [])
+  pub half-dot : p.marker ≡ HalfBlock → after ≡ half_dot p.columns end cells d.column d.row p.word → after ≡ painted_by p cells (d ∷ [])
   half-dot m h = h ∙ rw m (half-paints p.columns p.rows cells d.column d.row p.word end held)
 
 -- ---- cells held, which need no test
@@ -59,10 +38,13 @@ plain_cell columns d = d.row * columns + d.column
 abbrev pub AllHeld : Painter → (Dot → ℕ) → List ℕ → Course → Type 0
 AllHeld p cell_of cells c = (k : ℕ) → k < c.count → cell_of (course_dot (course_after k c)) < cells_held cells p.columns p.rows
 
--- in a loop that is at its dot k
-pub still-held : (p : Painter) (cell_of : Dot → ℕ) (before between : List ℕ) (c₀ c : Course) (k i : ℕ) (d : Dot) → AllHeld p cell_of before c₀ → k < c₀.count → Along p before c₀ k c between
-    → d ≡ course_dot c → i ≡ cell_of d → i < cells_held between p.columns p.rows
-still-held p cell_of before between c₀ c k i d h l g e j = rw (j, e ∙ ap course_dot g.1, g.0) (h k l)
+-- in a `for` over a course's dots, at its dot k
+pub dot-held : (p : Painter) (cell_of : Dot → ℕ) (before between : List ℕ) (c : Course) (k : ℕ) (d : Dot) → AllHeld p cell_of before c → length between ≡ length before
+    → (k < length (course_dots c c.count)) × (d ≡ get_or (course_dots c c.count) k d) → cell_of d < cells_held between p.columns p.rows
+dot-held p cell_of before between c k d h same at =
+    let l : k < c.count = rw (length-tabulate c.count (λ i. course_dot (course_after i c))) at at.0 in
+    let e : d ≡ course_dot (course_after k c) = at.1 ∙ get_or-tabulate c.count k (λ i. course_dot (course_after i c)) d l in
+    rw (same, ap cell_of e) (h k l)
 
 pub in-store : (cells : List ℕ) (columns rows i : ℕ) → i < cells_held cells columns rows → i < length cells / 5
 in-store cells columns rows i h = omega arith
@@ -72,7 +54,7 @@ module _ (p : Painter) (cells after : List ℕ) (i bits : ℕ) (d : Dot) (l : i 
   in-canvas : i < p.columns * p.rows
   in-canvas = omega arith
 
-  pub braille-set : p.marker ≡ 1 → i ≡ braille_cell p.columns d → bits ≡ 2 ^ (d.row % 4 * 2 + d.column % 2) → after ≡ painted_by p cells (d ∷ [])
+  pub braille-set : p.marker ≡ Braille → i ≡ braille_cell p.columns d → bits ≡ 2 ^ (d.row % 4 * 2 + d.column % 2) → after ≡ painted_by p cells (d ∷ [])
   braille-set m j b = h ∙ rw (j, b, m) (braille-inked-dot p.columns p.rows cells d.column d.row p.word (rw j at in-canvas))
 
   pub plain-set : dot_size p.marker ≡ by 1 1 → i ≡ plain_cell p.columns d → bits ≡ 1 → after ≡ painted_by p cells (d ∷ [])

@@ -1,17 +1,13 @@
--- Lists of dots painted one after the other: a list in two parts, one more dot of a list by numbers, the column from a dot, and how many dots there are.
-use Rattle.std.proofs.Common.{◌≡◌, ℕ, ◌+◌, ◌-◌, ◌^◌, ◌<◌, ◌≤◌, min, max, List, [], ◌∷◌, ◌++◌, length, sym, refl, ap, append_assoc, append-nil, add-one, arith, length-append}
+-- Lists of dots painted one after the other: a list in two parts, the column from a dot, and how many dots there are.
+use Rattle.std.proofs.Common.{◌≡◌, ℕ, ◌+◌, ◌-◌, ◌^◌, ◌<◌, ◌≤◌, min, max, List, [], ◌∷◌, ◌++◌, length, sym, refl, ap, append_assoc, append-nil, arith, length-append}
 use Rattle.walk.specs.Tabulate.{tabulate}
 use Rattle.walk.specs.Line.{apart}
 use Rattle.walk.specs.declared.bresenham.Dot.{Dot}
 use Rattle.walk.proofs.Tabulated.{length-tabulate}
 use Rattle.columns.specs.Columns.{column_dots}
 use Rattle.grids.proofs.Words.{foldl-append}
-use Rattle.lines.specs.Painted.{flat, dot_at, column_to, painted_by}
+use Rattle.lines.specs.Painted.{flat, dot_at, column_to, painted_by, Painted}
 use Rattle.lines.specs.declared.painter.Painter.{Painter}
-
--- the dots, of which there are n, painted over `before` give `after`
-abbrev pub Painted : Painter → List ℕ → List Dot → ℕ → List ℕ → Type 0
-Painted p before dots n after = (n ≡ length dots) × (after ≡ painted_by p before dots)
 
 -- one list, then another
 pub painted-then : (p : Painter) (before between after : List ℕ) (xs ys : List Dot) (m n : ℕ)
@@ -20,12 +16,6 @@ painted-then p before between after xs ys m n f g = (
   rw (f.0, g.0) (sym (length-append xs ys)),
   rw foldl-append (rw f.1 at g.1),
 )
-
--- ---- one more dot of a list by numbers
-pub painted-next : (p : Painter) (f : ℕ → Dot) (before between after : List ℕ) (k : ℕ) (d : Dot)
-    → d ≡ f k → Painted p before (tabulate k f) k between → after ≡ painted_by p between (d ∷ []) → Painted p before (tabulate (k + 1) f) (k + 1) after
-painted-next p f before between after k d e g h =
-    rw add-one (rw add-one at (painted-then p before between after (tabulate k f) (f k ∷ []) k 1 g (refl, rw (sym e) h)))
 
 -- ---- the lists of each element
 pub flat_append : {A B : Type 0} (f : A → List B) (xs ys : List A) → flat f (xs ++ ys) ≡ flat f xs ++ flat f ys

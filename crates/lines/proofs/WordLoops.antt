@@ -1,9 +1,9 @@
--- The loop that counts words instead of cells: a turn of it, and that it paints a course whose dots have their cells at those words.
-use Rattle.std.proofs.Common.{◌≡◌, ℕ, zero, suc, ◌+◌, ◌*◌, ◌/◌, ◌%◌, ◌^◌, ◌<◌, ◌≤◌, List, [], ◌∷◌, length, refl, ap, ◌∙◌, mul-le-mul_right, add-one, arith, length-set}
+-- The loop that counts words instead of cells: where it is after k turns, and that it paints a course whose dots have their cells at those words.
+use Rattle.std.proofs.Common.{◌≡◌, ℕ, zero, suc, ◌+◌, ◌*◌, ◌/◌, ◌%◌, ◌^◌, ◌<◌, ◌≤◌, List, [], ◌∷◌, length, refl, ap, ◌∙◌, mul-le-mul_right, arith, length-set}
 use Rattle.walk.specs.Course.{course_dot, course_after, course_dots}
 use Rattle.walk.specs.declared.bresenham.Dot.{Dot}
 use Rattle.walk.specs.declared.course.Course.{Course}
-use Rattle.walk.proofs.CourseDots.{moved-next, after_is, WholeAt}
+use Rattle.walk.proofs.CourseDots.{after_is, WholeAt}
 use Rattle.grids.specs.Markers.{by, dot_size}
 use Rattle.grids.specs.Painting.{cells_held}
 use Rattle.grids.proofs.Words.{foldl-append}
@@ -13,28 +13,9 @@ use Rattle.lines.specs.HeldWords.{word_after, word_set, words_set}
 use Rattle.lines.specs.declared.painter.Painter.{Painter}
 use Rattle.lines.proofs.CourseLoops.{AllHeld, plain_cell, in-store, plain-set}
 
--- ---- a turn
-module _ (start step from slope : ℕ) where
-  -- where the loop is after k turns
-  abbrev pub AtTurn : ℕ → ℕ → ℕ → Type 0
-  AtTurn k at place = (at ≡ start + k * step) × (place ≡ (from + k * slope) % 2 ^ 64)
-
-  pub turn-first : from < 2 ^ 64 → AtTurn 0 start from
-  turn-first f = (omega arith, omega arith)
-
-  pub turn-next : (k at place next : ℕ) → AtTurn k at place → next ≡ (place + slope) % 2 ^ 64 → AtTurn (k + 1) (at + step) next
-  turn-next k at place next t e = (omega (arith, t.0), rw (e, t.1, add-one) (moved-next from slope k))
-
-  pub turn-fits : (count k at place : ℕ) → k < count → AtTurn k at place → start + count * step < 2 ^ 64 → at + step < 2 ^ 64
-  turn-fits count k at place l t h = omega (arith, t.0, mul-le-mul_right step l)
-
-  module _ (unit : ℕ) where
-    pub turn_inside : (count k at place m n : ℕ) → ((i : ℕ) → i < count → word_after start step unit from slope i + 4 < n) → k < count → AtTurn k at place → m ≡ n → at + place / 2 ^ 48 * unit + 4 < m
-    turn_inside count k at place m n h l t e = rw (e, t.0, t.1) (h k l)
-
-    pub words-next : (word k at place : ℕ) (before between : List ℕ) → AtTurn k at place → between ≡ words_set word (word_after start step unit from slope) before k
-        → word_set word between (at + place / 2 ^ 48 * unit) ≡ words_set word (word_after start step unit from slope) before (k + 1)
-    words-next word k at place before between t h = rw (add-one, h, t.0, t.1)
+-- where the loop is after k turns
+abbrev pub AtTurn : ℕ → ℕ → ℕ → ℕ → ℕ → ℕ → ℕ → Type 0
+AtTurn start step from slope k at place = (at ≡ start + k * step) × (place ≡ (from + k * slope) % 2 ^ 64)
 
 length-words : (word : ℕ) (at : ℕ → ℕ) (cells : List ℕ) (n : ℕ) → length (words_set word at cells n) ≡ length cells
 length-words word at cells zero = refl

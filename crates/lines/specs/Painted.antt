@@ -1,5 +1,5 @@
 -- What painting dots leaves in the store, and the dots of a filled line: document 01, 'Shapes'.
-use Rattle.std.specs.Prelude.{ℕ, ◌+◌, min, List, [], ◌∷◌, ◌++◌}
+use Rattle.std.specs.Prelude.{ℕ, ◌+◌, min, ◌≡◌, List, [], ◌∷◌, ◌++◌, length}
 use Rattle.walk.specs.Tabulate.{tabulate}
 use Rattle.walk.specs.Line.{apart}
 use Rattle.walk.specs.declared.bresenham.Dot.{Dot}
@@ -16,6 +16,10 @@ flat f (x ∷ xs) = f x ++ flat f xs
 
 abbrev pub painted_by : Painter → List ℕ → List Dot → List ℕ
 painted_by p cells dots = paint_dots p.marker p.columns p.rows p.word cells dots
+
+-- the dots, of which there are n, painted over `before` give `after`
+abbrev pub Painted : Painter → List ℕ → List Dot → ℕ → List ℕ → Type 0
+Painted p before dots n after = (n ≡ length dots) × (after ≡ painted_by p before dots)
 
 -- 'FilledLine: from each dot of the walk its column to the dot row of `fill_to_y` clamped to the bounds, both ends in.'
 abbrev pub column_to : ℕ → Dot → List Dot

@@ -3,6 +3,7 @@
 // each dot was measured to matter.
 ghost use Rattle.std.specs.Prelude.{◌≡◌, ℕ, ◌+◌, ◌*◌, ◌/◌, ◌^◌, ◌<◌, [], ◌∷◌, length, ◌≢◌};
 ghost use Rattle.walk.specs.Course.{course_dot, course_after, course_dots};
+ghost use Rattle.grids.specs.declared.markers.Marker.{Marker};
 ghost use Rattle.grids.specs.Markers.{by, dot_size};
 ghost use Rattle.grids.specs.Painting.{cells_held};
 ghost use Rattle.lines.specs.Painted.{painted_by};
@@ -12,37 +13,31 @@ use crate::painter::Painter;
 use grids::painting::{flat_index, ink};
 use walk::bresenham::Dot;
 use walk::course::{Course, ONE};
+use walk::route::Route;
 
-// A dot of a Braille grid whose cell the store has.
+// A dot of a Braille grid whose cell the store has: paint_braille of grids without its test.
 fn set_braille(cells: &mut [u32], p: Painter, d: Dot)
-    requires { (p.marker ≡ 1) × (d.row / 4 * p.columns + d.column / 2 < cells_held cells.old p.columns p.rows) }
+    requires { (p.marker ≡ Marker.Braille) × (d.row / 4 * p.columns + d.column / 2 < cells_held cells.old p.columns p.rows) }
     ensures { cells.new ≡ painted_by p cells.old (d ∷ []) }
 {
     let i = flat_index(p.columns, d.column / 2, d.row / 4);
     let place = d.row % 4 * 2 + d.column % 2;
     let k = i * 5;
-    let e = k + 5;
-    ink(&mut cells[k..e], 1 << place, p.word);
+    ink(&mut cells[k..k + 5], 1 << place, p.word);
 }
 
 // The dots of a course on a Braille grid, where the cell of each is held, so that none is tested.
 pub(crate) fn held_braille(cells: &mut [u32], p: Painter, c: Course)
-    requires { (p.marker ≡ 1) × ((k : ℕ) → k < c.count → (course_dot (course_after k c)).row / 4 * p.columns + (course_dot (course_after k c)).column / 2 < cells_held cells.old p.columns p.rows) }
+    requires { (p.marker ≡ Marker.Braille) × ((k : ℕ) → k < c.count → (course_dot (course_after k c)).row / 4 * p.columns + (course_dot (course_after k c)).column / 2 < cells_held cells.old p.columns p.rows) }
     ensures { cells.new ≡ painted_by p cells.old (course_dots c c.count) }
 {
-    let n = c.count;
-    let mut w = c;
-    let mut k: u32 = 0;
-    while k < n {
-        let d = w.dot();
-        set_braille(&mut *cells, p, d);
-        w = w.step();
-        k += 1;
+    for dot in c.dots() {
+        set_braille(cells, p, dot);
     }
 }
 
 // Bit and ink of cells that the store has: the k-th stands at word start + k * step + unit * the whole
-// part of from + k * slope.
+// part of from + k * slope. Its numbers are computed once for a line, and go in by registers.
 fn held_words(
     cells: &mut [u32],
     word: u32,
@@ -58,14 +53,12 @@ fn held_words(
 {
     let mut at = start;
     let mut place = from;
-    let mut k: u32 = 0;
-    while k < count {
+    for _k in 0..count {
         let i = at + ((place / ONE) as usize) * unit;
-        cells[i + 3] = cells[i + 3] | 1;
+        cells[i + 3] |= 1;
         cells[i + 4] = word;
         at += step;
-        place = std::num::wrapping_add_u64(place, slope);
-        k += 1;
+        place = place.wrapping_add(slope);
     }
 }
 
@@ -79,27 +72,9 @@ pub(crate) fn held_plain(cells: &mut [u32], p: Painter, c: Course)
     let stride = (p.columns as usize) * 5;
     if c.right == ONE {
         let start = ((c.column / ONE) as usize) * 5;
-        held_words(
-            &mut *cells,
-            p.word,
-            start,
-            5,
-            stride,
-            c.row,
-            c.down,
-            c.count,
-        );
+        held_words(cells, p.word, start, 5, stride, c.row, c.down, c.count);
     } else {
         let start = ((c.row / ONE) as usize) * stride;
-        held_words(
-            &mut *cells,
-            p.word,
-            start,
-            stride,
-            5,
-            c.column,
-            c.right,
-            c.count,
-        );
+        held_words(cells, p.word, start, stride, 5, c.column, c.right, c.count);
     }
 }

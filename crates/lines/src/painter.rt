@@ -2,7 +2,7 @@
 ghost use Rattle.std.specs.Prelude.{◌≡◌, [], ◌∷◌};
 ghost use Rattle.lines.specs.Painted.{dot_at, painted_by};
 
-use grids::markers::is_plain;
+use grids::markers::Marker;
 use grids::painting::{cells_held, paint, paint_braille, paint_half, paint_plain};
 use view::point::View;
 
@@ -12,7 +12,7 @@ pub struct Painter {
     pub view: View,
     pub columns: u16,
     pub rows: u16,
-    pub marker: u8,
+    pub marker: Marker,
     pub word: u32,
 }
 
@@ -20,28 +20,15 @@ pub struct Painter {
 pub fn paint_dot(cells: &mut [u32], p: Painter, column: u32, row: u32)
     ensures { cells.new ≡ painted_by p cells.old (dot_at column row ∷ []) }
 {
-    if p.marker == 1 {
-        let end = cells_held(&*cells, p.columns, p.rows);
-        paint_braille(&mut *cells, p.columns, end, column, row, p.word);
-        return;
+    let end = cells_held(cells, p.columns, p.rows);
+    match p.marker {
+        Marker::Braille => paint_braille(cells, p.columns, end, column, row, p.word),
+        Marker::Dot | Marker::Block | Marker::Bar | Marker::Custom => {
+            paint_plain(cells, p.columns, end, column, row, p.word)
+        }
+        Marker::HalfBlock => paint_half(cells, p.columns, end, column, row, p.word),
+        Marker::Quadrant | Marker::Sextant => {
+            paint(cells, p.columns, p.rows, p.marker, column, row, p.word)
+        }
     }
-    if is_plain(p.marker) {
-        let end = cells_held(&*cells, p.columns, p.rows);
-        paint_plain(&mut *cells, p.columns, end, column, row, p.word);
-        return;
-    }
-    if p.marker == 5 {
-        let end = cells_held(&*cells, p.columns, p.rows);
-        paint_half(&mut *cells, p.columns, end, column, row, p.word);
-        return;
-    }
-    paint(
-        &mut *cells,
-        p.columns,
-        p.rows,
-        p.marker,
-        column,
-        row,
-        p.word,
-    );
 }

@@ -1,82 +1,63 @@
 // The walk between two ends, painted. On HalfBlock, Quadrant and Sextant grids it is the Walk with its
 // signed decision value, and each dot is tested; Braille and the grids of one dot a cell go by the
 // faster course, which gives the same dots.
-ghost use Rattle.std.specs.Prelude.{◌≡◌, max, [], ◌∷◌, length};
+ghost use Rattle.std.specs.Prelude.{◌≡◌, [], ◌∷◌};
 ghost use Rattle.walk.specs.Line.{line_dots};
 ghost use Rattle.grids.specs.Painting.{cells_held};
-ghost use Rattle.lines.specs.Painted.{painted_by};
+ghost use Rattle.lines.specs.Painted.{Painted, painted_by};
 
 use crate::held::{held_braille, held_plain};
 use crate::painter::Painter;
-use grids::markers::is_plain;
+use grids::markers::{Marker, is_plain};
 use grids::painting::{cells_held, flat_index, paint, paint_half};
 use walk::bresenham::{Dot, Ends, Walk};
 use walk::course::Course;
+use walk::route::Route;
 
-// A dot of the walk, tested, where `end` is the number of cells held.
+// A dot of the walk, tested, where `end` is the number of cells held. Of two kinds, where paint_dot has
+// four: by its match a dot on HalfBlock took 20 instructions more.
 fn paint_step(cells: &mut [u32], p: Painter, end: usize, d: Dot)
     requires { end ≡ cells_held cells.old p.columns p.rows }
     ensures { cells.new ≡ painted_by p cells.old (d ∷ []) }
 {
-    if p.marker == 5 {
-        paint_half(&mut *cells, p.columns, end, d.column, d.row, p.word);
-        return;
+    if p.marker == Marker::HalfBlock {
+        paint_half(cells, p.columns, end, d.column, d.row, p.word);
+    } else {
+        paint(cells, p.columns, p.rows, p.marker, d.column, d.row, p.word);
     }
-    paint(
-        &mut *cells,
-        p.columns,
-        p.rows,
-        p.marker,
-        d.column,
-        d.row,
-        p.word,
-    );
 }
 
 // The dots of the walk on any grid, with a test for each.
 fn walk_any(cells: &mut [u32], p: Painter, e: Ends) -> u64
-    ensures { (result ≡ length (line_dots e)) × (cells.new ≡ painted_by p cells.old (line_dots e)) }
+    ensures { Painted p cells.old (line_dots e) result cells.new }
 {
-    let end = cells_held(&*cells, p.columns, p.rows);
-    let mut w = Walk::new(e);
-    let n = w.count();
-    let mut k: u32 = 0;
-    while k < n {
-        let d = w.dot();
-        paint_step(&mut *cells, p, end, d);
-        w = w.step();
-        k += 1;
+    let end = cells_held(cells, p.columns, p.rows);
+    let walk = Walk::new(e);
+    for dot in walk.dots() {
+        paint_step(cells, p, end, dot);
     }
-    n as u64
-}
-
-fn greater(a: u16, b: u16) -> u32
-    ensures { result ≡ max a b }
-{
-    if a < b { b as u32 } else { a as u32 }
+    u64::from(walk.count())
 }
 
 // The walk between two ends. The marker is tested here once, and so are the cells: each dot lies
 // between the ends, so that where the cell of the greatest column and row is held, the cells of all are.
 pub fn paint_walk(cells: &mut [u32], p: Painter, e: Ends) -> u64
-    ensures { (result ≡ length (line_dots e)) × (cells.new ≡ painted_by p cells.old (line_dots e)) }
+    ensures { Painted p cells.old (line_dots e) result cells.new }
 {
-    let end = cells_held(&*cells, p.columns, p.rows);
-    let right = greater(e.x1, e.x2);
-    let low = greater(e.y1, e.y2);
+    let end = cells_held(cells, p.columns, p.rows);
+    let right = u32::from(e.x1.max(e.x2));
+    let low = u32::from(e.y1.max(e.y2));
     let last_braille = flat_index(p.columns, right / 2, low / 4);
-    if (p.marker == 1) & (last_braille < end) {
-        let c = Course::new(e);
-        held_braille(&mut *cells, p, c);
-        let n = c.count;
-        return n as u64;
+    if (p.marker == Marker::Braille) & (last_braille < end) {
+        let course = Course::new(e);
+        held_braille(cells, p, course);
+        return u64::from(course.count);
     }
     let last_plain = flat_index(p.columns, right, low);
     if is_plain(p.marker) & (last_plain < end) {
-        let c = Course::new(e);
-        held_plain(&mut *cells, p, c);
-        let n = c.count;
-        return n as u64;
+        let course = Course::new(e);
+        held_plain(cells, p, course);
+        return u64::from(course.count);
     }
-    walk_any(&mut *cells, p, e)
+    walk_any(cells, p, e)
 }

@@ -1,3 +1,4 @@
 -- Laws of lists of pairs in bytes.
 pub mod PairLists
 pub mod PairParts
+pub mod PairBlocks

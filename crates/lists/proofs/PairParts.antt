@@ -1,20 +1,17 @@
 -- A number in the sixteen bytes of a pair, lent as a part of their own, is that of the whole part; and what `list_fits` says.
 use mathlib.Core.Path.{◌≡◌, refl, sym, ◌∙◌}
-use mathlib.Core.Bool.{true, false}
-use mathlib.Core.List.{List, []}
+use mathlib.Core.Bool.{true}
+use mathlib.Core.List.{List}
 use Prim.Native.Nat.{ℕ, zero, suc, ◌+◌, ◌-◌, ◌*◌, ◌≤◌, ◌<◌}
 use native.Mathlib.Omega.{arith}
 use lib.ListN.{length, take, drop, length-take, length-drop}
 use lib.Seq.{get_or-take, get_or-drop}
-use lib.Dec.{eqb, leb}
-use borrow.Author.Tests.{leb-true, le-leb, lt-leb, ne_eqb}
+use lib.Dec.{leb}
+use borrow.Author.Tests.{leb-true, le-leb, lt-leb}
 use Rattle.floats.proofs.Cases.{and-true-left, and-true-right}
 use Rattle.form.specs.Fields.{little, number_at}
 use Rattle.form.proofs.Numbers.{whole}
-use Rattle.view.specs.declared.point.View.{View}
-use Rattle.shapes.specs.Shapes.{pair_dots}
-use Rattle.ledger.specs.Calls.{bad_pairs}
-use Rattle.lists.specs.Lists.{pairs_at, list_fits, bad_list, list_dots}
+use Rattle.lists.specs.Lists.{list_fits}
 
 -- ---- a pair's bytes
 little-part : (part : List ℕ) (at m k n : ℕ) → k + n ≤ m → little (take m (drop at part)) k n ≡ little part (at + k) n
@@ -44,38 +41,11 @@ pub does-fit : (part : List ℕ) (n : ℕ) → 16 * n ≤ length part - 2 → n 
 unfolding list_fits
 does-fit part n h l = let e : n * 16 ≤ length part - 2 = omega (arith, h) in rw (le-leb n 4096 l, le-leb (n * 16) (length part - 2) e)
 
-pub too_many : (part : List ℕ) (n : ℕ) → 4096 < n → false ≡ list_fits part n
+-- the two tests, of which the second is made where the first holds
+pub too_many : (part : List ℕ) (n : ℕ) → 4096 < n → leb n 4096 ≡ list_fits part n
 unfolding list_fits
 too_many part n h = rw (lt-leb n 4096 h)
-
--- a part with no room for the count has room for no pair
-pub no-count : (part : List ℕ) (n : ℕ) → n ≤ 4096 → length part < 2 → eqb n 0 ≡ list_fits part n
-unfolding list_fits
-no-count part n l h = let e : length part - 2 ≡ 0 = omega (arith, h) in rw (le-leb n 4096 l, e) (go n)
-  where
-    go : (n : ℕ) → eqb n 0 ≡ leb (n * 16) 0
-    go zero = refl
-    go (suc n) = ne_eqb (suc n) 0 (λ e. omega (arith, e)) ∙ sym (lt-leb (suc n * 16) 0 (omega arith))
 
 pub by-room : (part : List ℕ) (n : ℕ) → n ≤ 4096 → leb (n * 16) (length part - 2) ≡ list_fits part n
 unfolding list_fits
 by-room part n l = rw (le-leb n 4096 l)
-
--- ---- a list looked through and painted, where it fits and where it does not
-module _ (part : List ℕ) (n : ℕ) (e : list_fits part n ≡ true) where
-  pub bad-fits : bad_list part n ≡ bad_pairs (pairs_at part 2 n)
-  unfolding bad_list
-  bad-fits = rw e
-
-  pub dots-fit : (v : View) → list_dots v part n ≡ pair_dots v (pairs_at part 2 n)
-  unfolding list_dots
-  dots-fit v = rw e
-
-module _ (part : List ℕ) (n : ℕ) (e : list_fits part n ≡ false) where
-  pub bad-past : true ≡ bad_list part n
-  unfolding bad_list
-  bad-past = rw e
-
-  pub none-past : (v : View) → list_dots v part n ≡ []
-  unfolding list_dots
-  none-past v = rw e

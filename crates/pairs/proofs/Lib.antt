@@ -1,3 +1,2 @@
--- Laws of lists of pairs: scanned, and the two ways of a call of points.
+-- Laws of lists of pairs, scanned.
 pub mod PairScans
-pub mod PointsSteps

@@ -1,66 +1,110 @@
-// A list of pairs: looked through, painted, and drawn. One thin function takes a pair out and calls the
-// point routine; Pair itself is in crate shapes.
-ghost use Rattle.std.specs.Prelude.{◌≡◌, length};
+// Points over a list of coordinate pairs, however it is lent: looked through, painted, and drawn.
+ghost use Rattle.std.specs.Prelude.{◌≡◌, List, get_or, length};
 ghost use Rattle.shapes.specs.Shapes.{pair_dots};
-ghost use Rattle.lines.specs.Painted.{painted_by};
+ghost use Rattle.shapes.specs.declared.painters.Pair.{Pair};
+ghost use Rattle.lines.specs.Painted.{Painted};
 ghost use Rattle.ledger.specs.Calls.{bad_pairs, points};
 ghost use Rattle.ledger.specs.Model.{state_after};
-ghost use Rattle.ledger.specs.Outcomes.{given, called_on};
+ghost use Rattle.ledger.specs.Outcomes.{given, answer_on};
+ghost use Rattle.canvas.specs.Results.{painted};
+ghost use Rattle.pairs.specs.Origin.{origin};
 
-use canvas::calls::{drawn, painter_for, points_refusal, refused};
-use ledger::state::{Called, Canvas};
+use canvas::calls::{count_draw, painter_for, points_refusal};
+use ledger::state::Canvas;
 use limits::state::is_bad_point;
 use lines::painter::Painter;
+use refusals::refusal::Refusal;
 use shapes::painters::{Pair, paint_point};
 
+// What is read past the last pair of a list.
+pub const ORIGIN: Pair = Pair { x: 0.0, y: 0.0 };
+
+// A lent list of pairs, read by place.
+pub trait Pairs: Copy {
+    ghost listed: { Self → List Pair };
+
+    fn count(self) -> usize
+        ensures { result ≡ length (listed self) };
+
+    fn pair(self, i: usize) -> Pair
+        ensures { result ≡ get_or (listed self) i origin };
+}
+
+// Such a list, with the way in which its points are painted.
+pub trait Paint: Pairs {
+    // The points of the pairs, painted one after the other; the number of their dots.
+    fn paint(self, cells: &mut [u32], p: Painter) -> u64
+        ensures { Painted p cells.old (pair_dots p.view (Self.listed self)) result cells.new };
+}
+
+impl<'a> Pairs for &'a [Pair] {
+    ghost listed = { λ pairs. pairs.now };
+
+    fn count(self) -> usize {
+        self.len()
+    }
+
+    fn pair(self, i: usize) -> Pair {
+        if i < self.len() { self[i] } else { ORIGIN }
+    }
+}
+
+impl<'a> Paint for &'a [Pair] {
+    fn paint(self, cells: &mut [u32], p: Painter) -> u64 {
+        paint_pairs(cells, p, self)
+    }
+}
+
 // A pair with a number outside the domain.
-pub fn is_bad_pairs(pairs: &[Pair]) -> bool
-    ensures { result ≡ bad_pairs pairs.now }
+pub fn is_bad_pairs<P: Pairs>(pairs: P) -> bool
+    ensures { result ≡ bad_pairs (P.listed pairs) }
 {
-    let n = pairs.len();
-    let mut seen: usize = 0;
-    while seen < n {
-        let pair = pairs[seen];
+    for seen in 0..pairs.count() {
+        let pair = pairs.pair(seen);
         if is_bad_point(pair.x, pair.y) {
             return true;
         }
-        seen += 1;
     }
     false
 }
 
-// The points of a lent list of coordinate pairs: each pair is taken out and its point painted.
-pub fn paint_pairs(cells: &mut [u32], p: Painter, pairs: &[Pair]) -> u64
-    ensures { (result ≡ length (pair_dots p.view pairs.now)) × (cells.new ≡ painted_by p cells.old (pair_dots p.view pairs.now)) }
+// The points of the pairs: document 01, 'one thin function takes a pair out and calls the covered point
+// routine'.
+pub fn paint_pairs<P: Pairs>(cells: &mut [u32], p: Painter, pairs: P) -> u64
+    ensures { Painted p cells.old (pair_dots p.view (P.listed pairs)) result cells.new }
 {
-    let n = pairs.len();
-    let mut painted: u64 = 0;
-    let mut i: usize = 0;
-    while i < n {
-        let pair = pairs[i];
-        painted += paint_point(&mut *cells, p, pair.x, pair.y);
-        i += 1;
+    let mut painted = 0;
+    for i in 0..pairs.count() {
+        let pair = pairs.pair(i);
+        painted += paint_point(cells, p, pair.x, pair.y);
     }
     painted
 }
 
-// Points drawn in a colour: a lent list of coordinate pairs.
-pub fn points(
-    canvas: Canvas,
+// Points drawn in a colour. All pairs are looked through before the first is painted, since a call that
+// is refused paints nothing.
+pub fn points<P: Paint>(
+    canvas: &mut Canvas,
     cells: &mut [u32],
     labels: &[u32],
-    pairs: &[Pair],
+    pairs: P,
     colour: u32,
-) -> Called
-    ensures { (result ≡ called_on (given canvas cells.old labels.now) (points pairs.now colour))
-        × (cells.new ≡ (state_after (given canvas cells.old labels.now) (points pairs.now colour)).cells) }
+) -> Result<u64, Refusal>
+    ensures answer { painted result ≡ answer_on (given canvas.old cells.old labels.now) (points (P.listed pairs) colour) }
+    ensures canvas { canvas.new ≡ (state_after (given canvas.old cells.old labels.now) (points (P.listed pairs) colour)).canvas }
+    ensures cells { cells.new ≡ (state_after (given canvas.old cells.old labels.now) (points (P.listed pairs) colour)).cells }
 {
     let bad = is_bad_pairs(pairs);
-    let n = points_refusal(canvas, cells.len(), labels.len(), bad, pairs.len(), colour);
-    if n != 0 {
-        return refused(canvas, n);
-    }
-    let p = painter_for(canvas, colour);
-    let painted = paint_pairs(&mut *cells, p, pairs);
-    drawn(canvas, painted)
+    points_refusal(
+        *canvas,
+        cells.len(),
+        labels.len(),
+        bad,
+        pairs.count(),
+        colour,
+    )?;
+    let p = painter_for(*canvas, colour);
+    let n = pairs.paint(cells, p);
+    count_draw(canvas, n);
+    Ok(n)
 }

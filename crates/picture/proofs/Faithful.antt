@@ -15,8 +15,8 @@ use Rattle.ledger.specs.Model.{State, or_refusal, refusal_on, accepted_on, reply
 use Rattle.ledger.specs.Outcomes.{accepted_answer, answer_unless, answer_on, reply_of}
 use Rattle.ledger.specs.Promise.{open_state}
 use Rattle.ledger.specs.declared.screen.Area.{Area}
-use Rattle.ledger.specs.declared.state.Answer.{Answer}
-use Rattle.ledger.specs.declared.state.Answer.TheVariants as answer
+use Rattle.ledger.specs.Answer.{Answer}
+use Rattle.ledger.specs.Answer as answer
 use Rattle.ledger.proofs.CallSteps.{or-none}
 use Rattle.ledger.proofs.Promise.{promise}
 use Rattle.picture.specs.Opening.{opening_of}
@@ -26,9 +26,9 @@ use Rattle.picture.specs.Run.{form_or_size, opening_refusal, opened_state, Ended
 use Rattle.records.specs.Steps.{refusal_at, record_state}
 use Rattle.picture.specs.Meaning.{Entries, end, entry, entry_unless, entries_from, entries_of, calls_of}
 use Rattle.picture.specs.Faithful.{Result, last_call, judged_last, judged, result_of, Faithful}
-use Rattle.picture.specs.declared.run.Stop.{Stop}
-use Rattle.picture.specs.declared.run.Stop.TheVariants as stop
-use Rattle.picture.specs.declared.run.Drawn.TheVariants as drawn
+use Rattle.picture.specs.Stop.{Stop}
+use Rattle.picture.specs.Stop as stop
+use Rattle.picture.specs.Drawn as drawn
 use Rattle.picture.proofs.RunSteps.{further}
 
 -- ---- the canvas keeps the opening's size

@@ -9,16 +9,16 @@ use borrow.Author.Tests.{lt-ltb, le-ltb, le-leb, lt-leb}
 use Rattle.ledger.specs.Calls.{open_refusal}
 use Rattle.ledger.specs.Model.{zero_canvas, open_cells}
 use Rattle.ledger.specs.Outcomes.{open_called}
-use Rattle.ledger.specs.declared.state.Called.{Called}
+use Rattle.ledger.specs.Answer.{Called, Answer}
 use Rattle.form.specs.Fields.{number_at, size_by}
 use Rattle.form.specs.Forms.{max_file, opening_map, opening_widths, opening_part, opening_end, opening_form}
 use Rattle.picture.specs.Opening.{opening_from, opening_of}
-use Rattle.picture.specs.declared.opening.Fields.{Fields}
-use Rattle.records.specs.Steps.{step_by}
+use Rattle.picture.specs.declared.opening.Opening.{Opening}
 use Rattle.picture.specs.Run.{too_large, form_or_size, opening_refusal, opened_state, opening_taken}
-use Rattle.records.specs.declared.steps.Step.{Step}
-use Rattle.records.specs.declared.steps.Step.TheVariants as step
-use Rattle.records.proofs.RecordSteps.{opened-step}
+use Rattle.records.specs.Step.{Step, step_unless}
+use Rattle.records.specs.Step as step
+use Rattle.ledger.specs.Outcomes.{answer_unless}
+use Rattle.ledger.specs.Answer as answer
 
 pub too_long : (file : List ℕ) (widest highest : ℕ) → max_file < length file → 17 ≡ form_or_size file widest highest
 unfolding form_or_size opening_form
@@ -53,6 +53,17 @@ none file widest highest g b h t = rw (le-ltb max_file (length file) g.within, l
 
 -- ---- what it leaves
 
+-- the step that an opening's answer makes, which is done or refused
+abbrev pub step_by : Answer → ℕ → Step
+step_by (answer.Refused number) next = step.Refused number
+step_by (answer.Painted n) next = step.Next next
+step_by answer.Done next = step.Next next
+step_by (answer.Rendered n label_cells) next = step.Next next
+
+opened-step : (n next : ℕ) → step_by (answer_unless n answer.Done) next ≡ step_unless n next
+opened-step zero next = refl
+opened-step (suc n) next = refl
+
 pub opening-refused : (file : List ℕ) (widest highest : ℕ) (cells labels : List ℕ) (n : ℕ) → n ≡ form_or_size file widest highest → (n ≡ 0 → ⊥)
     → (record { canvas = zero_canvas; step = step.Refused n } ≡ opening_taken file widest highest cells labels) × (cells ≡ (opened_state file widest highest cells labels).cells)
 unfolding opening_refusal opened_state
@@ -74,7 +85,7 @@ pub size-test : (file : List ℕ) (widest highest columns rows : ℕ) → column
 unfolding opening_of
 size-test file widest highest columns rows c r = rw (c, r)
 
-pub opening-made : (file : List ℕ) (columns rows : ℕ) (part : List ℕ) (fields : Fields) → columns ≡ number_at file 0 2 → rows ≡ number_at file 2 2 → part ≡ opening_part file
+pub opening-made : (file : List ℕ) (columns rows : ℕ) (part : List ℕ) (fields : Opening) → columns ≡ number_at file 0 2 → rows ≡ number_at file 2 2 → part ≡ opening_part file
     → fields ≡ record {
       bounds = (opening_from 0 0 (opening_map file) part).bounds;
       marker = (opening_from 0 0 (opening_map file) part).marker;

@@ -1,3 +1,4 @@
+use Rattle.std.specs.Prelude.{Option, Some, None, ℕ}
 -- Every record that is written is read back: its map says which fields stand, and each is read where its bytes begin.
 use mathlib.Core.Path.{◌≡◌, refl, ap, ◌∙◌}
 use mathlib.Core.Bool.{false}
@@ -13,8 +14,6 @@ use Rattle.walk.specs.declared.clip.Segment.{Segment}
 use Rattle.shapes.specs.declared.painters.Shape.{Shape}
 use Rattle.shapes.specs.declared.painters.Shape.TheVariants.{Line, FilledLine, Rectangle, Circle}
 use Rattle.ledger.specs.Calls.{Call, draw, points, dot, layer, marker, print, render}
-use Rattle.ledger.specs.declared.labels.Choice.{Choice}
-use Rattle.ledger.specs.declared.labels.Choice.TheVariants.{Nothing, Colour}
 use Rattle.form.specs.Fields.{stands, number_at}
 use Rattle.form.specs.Forms.{is_unknown, kind_at, map_at, widths_of, record_widths, record_end}
 use Rattle.lists.specs.Lists.{pairs_at}
@@ -76,18 +75,18 @@ shape-back (Circle x y radius) colour rest h c =
 text-back : (n : ℕ) (text rest : List ℕ) → n ≡ length text → take n (text ++ rest) ≡ text
 text-back n text rest e = rw (e, take-append_seam)
 
-label-back : (x y : Float) (text : List ℕ) (choice : Choice) (rest : List ℕ) → IsFloat x → IsFloat y → length text < 2 ^ 8 → WritableChoice choice
+label-back : (x y : Float) (text : List ℕ) (choice : Option ℕ) (rest : List ℕ) → IsFloat x → IsFloat y → length text < 2 ^ 8 → WritableChoice choice
     → ReadBack (print x y text choice) (label_bytes x y text choice) rest
 unfolding stands widths_of call_of record_call record_end
-label-back x y text Nothing rest hx hy l c =
-    let part = drop 2 (label_bytes x y text Nothing) ++ rest in
+label-back x y text None rest hx hy l c =
+    let part = drop 2 (label_bytes x y text None) ++ rest in
     let n = number-back part 16 1 (length text) (text ++ rest) l refl in
-    back_by refl (lit< tt) (omega arith) λ k. print (float_back part 0 x _ hx refl k) (float_back part 8 y _ hy refl k) (text-back _ text rest n k) Nothing
-label-back x y text (Colour colour) rest hx hy l c =
-    let part = drop 2 (label_bytes x y text (Colour colour)) ++ rest in
+    back_by refl (lit< tt) (omega arith) λ k. print (float_back part 0 x _ hx refl k) (float_back part 8 y _ hy refl k) (text-back _ text rest n k) None
+label-back x y text (Some colour) rest hx hy l c =
+    let part = drop 2 (label_bytes x y text (Some colour)) ++ rest in
     let n = number-back part 20 1 (length text) (text ++ rest) l refl in
     let ink = number-back part 16 4 colour _ c refl in
-    back_by refl (lit< tt) (omega arith) λ k. print (float_back part 0 x _ hx refl k) (float_back part 8 y _ hy refl k) (text-back _ text rest n k) (Colour (ink k))
+    back_by refl (lit< tt) (omega arith) λ k. print (float_back part 0 x _ hx refl k) (float_back part 8 y _ hy refl k) (text-back _ text rest n k) (Some (ink k))
 
 pub read_back : (call : Call) (rest : List ℕ) → Writable call → ReadBack call (record_bytes call) rest
 unfolding stands widths_of call_of record_call record_end

@@ -1,5 +1,5 @@
 -- What a run of records comes to after one of them.
-use mathlib.Core.Path.{◌≡◌, refl, sym, ◌∙◌, ap}
+use mathlib.Core.Path.{◌≡◌, refl, sym}
 use mathlib.Core.List.{List}
 use Prim.Native.Nat.{ℕ, zero, suc, ◌+◌, ◌≤◌, ◌<◌}
 use native.Mathlib.Omega.{arith}
@@ -7,14 +7,13 @@ use lib.ListN.{length}
 use borrow.Author.Tests.{lt-ltb, le-ltb}
 use Rattle.ledger.specs.Ledger.{unless}
 use Rattle.ledger.specs.Model.{State, or_refusal, refusal_on, state_after, accepted_on}
-use Rattle.ledger.specs.Outcomes.{given}
 use Rattle.records.specs.Records.{record_call}
 use Rattle.form.specs.Forms.{record_end, record_form}
-use Rattle.records.specs.Steps.{refusal_at, record_state, record_taken}
+use Rattle.records.specs.Steps.{refusal_at, record_state}
 use Rattle.picture.specs.Run.{run_from, records_from}
-use Rattle.records.specs.declared.steps.Taken.{Taken}
-use Rattle.records.specs.declared.steps.Step.TheVariants as step
-use Rattle.picture.specs.declared.run.Stop.TheVariants as stop
+use Rattle.records.specs.Step.{step_unless}
+use Rattle.records.specs.Step as step
+use Rattle.picture.specs.Stop as stop
 use Rattle.records.proofs.RecordSteps.{next-accepted, refused-number}
 
 -- a refused record changes nothing
@@ -64,17 +63,14 @@ run_end file at s l = go (length file)
     go zero = refl
     go (suc n) = rw (le-ltb at (length file) l)
 
-pub went_on : (s : State) (file : List ℕ) (at next : ℕ) (taken : Taken) (cells labels : List ℕ) → at < length file → taken ≡ record_taken s file at
-    → cells ≡ (record_state s file at).cells → labels ≡ (record_state s file at).labels → taken.step ≡ step.Next next
-    → (at < next) × (records_from file next (given taken.canvas cells labels) ≡ records_from file at s)
-went_on s file at next taken cells labels h made c l e =
-    let n = next-accepted (refusal_at s file at) (record_end file at) next (sym e ∙ ap (λ (t : Taken). t.step) made) in
-    (rw n.1 (further file at), rw (n.1, made, c, l) (sym (run-next file at s h n.0)))
+pub went_on : (s after : State) (file : List ℕ) (at next : ℕ) → at < length file → step.Next next ≡ step_unless (refusal_at s file at) (record_end file at) → after ≡ record_state s file at
+    → (at < next) × (records_from file next after ≡ records_from file at s)
+went_on s after file at next h e a =
+    let n = next-accepted (refusal_at s file at) (record_end file at) next e in
+    (rw n.1 (further file at), rw (n.1, a) (sym (run-next file at s h n.0)))
 
-pub stopped : (s : State) (file : List ℕ) (at number : ℕ) (taken : Taken) (cells labels : List ℕ) → at < length file → taken ≡ record_taken s file at
-    → cells ≡ (record_state s file at).cells → labels ≡ (record_state s file at).labels → taken.step ≡ step.Refused number
-    → (records_from file at s ≡ record { state = s; stop = stop.Refused number at }) × (cells ≡ s.cells) × (labels ≡ s.labels)
-stopped s file at number taken cells labels h made c l e =
-    let n = refused-number (refusal_at s file at) (record_end file at) number (sym e ∙ ap (λ (t : Taken). t.step) made) in
-    let same = refused-same s file at n.1 in
-    (rw n.0 (run-refused file at s h n.1), c ∙ rw (same), l ∙ rw (same))
+pub stopped : (s after : State) (file : List ℕ) (at number : ℕ) → at < length file → step.Refused number ≡ step_unless (refusal_at s file at) (record_end file at) → after ≡ record_state s file at
+    → records_from file at s ≡ record { state = after; stop = stop.Refused number at }
+stopped s after file at number h e a =
+    let n = refused-number (refusal_at s file at) (record_end file at) number e in
+    rw (n.0, a, refused-same s file at n.1) (run-refused file at s h n.1)

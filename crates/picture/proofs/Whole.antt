@@ -10,13 +10,12 @@ use Rattle.ledger.specs.Promise.{open_state}
 use Rattle.ledger.specs.Outcomes.{given}
 use Rattle.picture.specs.Opening.{opening_of}
 use Rattle.form.specs.Forms.{opening_end}
-use Rattle.picture.specs.Run.{form_or_size, opening_refusal, opened_state, opening_taken, Ended, records_from, ran_by, area_of, finished, ended, picture_of}
-use Rattle.records.specs.declared.steps.Step.TheVariants as step
-use Rattle.records.specs.declared.steps.Taken.{Taken}
-use Rattle.picture.specs.declared.run.Ran.{Ran}
-use Rattle.picture.specs.declared.run.Stop.TheVariants as stop
-use Rattle.picture.specs.declared.run.Drawn.{Drawn}
-use Rattle.picture.specs.declared.run.Drawn.TheVariants as drawn
+use Rattle.picture.specs.Run.{form_or_size, opening_refusal, opened_state, opening_taken, Ended, records_from, area_of, finished, ended, picture_of}
+use Rattle.records.specs.Step as step
+use Rattle.records.specs.Steps.{Taken}
+use Rattle.picture.specs.Stop as stop
+use Rattle.picture.specs.Drawn.{Drawn}
+use Rattle.picture.specs.Drawn as drawn
 use Rattle.records.proofs.Kept.{same-labels}
 use Rattle.records.proofs.RecordSteps.{next-accepted, refused-number}
 
@@ -82,22 +81,17 @@ opening-ran file widest highest cells labels after taken start made c s =
     let same : given taken.canvas after labels ≡ o = rw (made, c) (ap (λ (x : List ℕ). given o.canvas o.cells x) l) in
     ended-opened file widest highest cells labels n.0 ∙ rw (n.1, same)
 
--- the canvas and stores that the records leave, as one state
-pub ran-state : (x : Ended) (ran : Ran) (cells labels : List ℕ) → ran ≡ ran_by x → cells ≡ x.state.cells → labels ≡ x.state.labels → given ran.canvas cells labels ≡ x.state
-ran-state x ran cells labels r c l = rw (r, c, l)
-
-pub gives-rendered : (file : List ℕ) (widest highest : ℕ) (cells labels screen : List ℕ) (x : Ended) (ran : Ran) (cells_before labels_after : List ℕ) (answer : Drawn) (cells_after screen_after : List ℕ)
-    → ended file widest highest cells labels ≡ x → ran ≡ ran_by x → cells_before ≡ x.state.cells → labels_after ≡ x.state.labels → ran.stop ≡ stop.End
-    → answer ≡ (finished (given ran.canvas cells_before labels_after) (length file) screen).drawn
-    → cells_after ≡ (finished (given ran.canvas cells_before labels_after) (length file) screen).state.cells
-    → screen_after ≡ (finished (given ran.canvas cells_before labels_after) (length file) screen).screen
-    → Gives file widest highest cells labels screen answer cells_after labels_after screen_after
-gives-rendered file widest highest cells labels screen x ran cells_before labels_after answer cells_after screen_after e made c l s drawn-is cells_are screen-is =
-    let same = ran-state x ran cells_before labels_after made c l in
-    let g = gives-finished file widest highest cells labels screen x e (ap (λ (r : Ran). r.stop) (sym made) ∙ s) in (
+pub gives-rendered : (file : List ℕ) (widest highest : ℕ) (cells labels screen : List ℕ) (x : Ended) (s : State) (answer : Drawn) (cells_after screen_after : List ℕ)
+    → ended file widest highest cells labels ≡ x → s ≡ x.state → x.stop ≡ stop.End
+    → answer ≡ (finished s (length file) screen).drawn
+    → cells_after ≡ (finished s (length file) screen).state.cells
+    → screen_after ≡ (finished s (length file) screen).screen
+    → Gives file widest highest cells labels screen answer cells_after s.labels screen_after
+gives-rendered file widest highest cells labels screen x s answer cells_after screen_after e same end drawn-is cells_are screen-is =
+    let g = gives-finished file widest highest cells labels screen x e end in (
       drawn-is ∙ (ap (λ (y : State). (finished y (length file) screen).drawn) same ∙ g.0),
       (
         cells_are ∙ (ap (λ (y : State). (finished y (length file) screen).state.cells) same ∙ g.1.0),
-        (l ∙ g.1.1.0, screen-is ∙ (ap (λ (y : State). (finished y (length file) screen).screen) same ∙ g.1.1.1)),
+        (ap (λ (y : State). y.labels) same ∙ g.1.1.0, screen-is ∙ (ap (λ (y : State). (finished y (length file) screen).screen) same ∙ g.1.1.1)),
       ),
     )

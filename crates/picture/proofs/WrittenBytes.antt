@@ -1,3 +1,4 @@
+use Rattle.std.specs.Prelude.{Option, Some, None, ℕ}
 -- What is written is a list of bytes, part after part.
 use mathlib.Core.List.{List, [], ◌∷◌, ◌++◌}
 use Prim.Native.Nat.{ℕ, zero, suc, ◌/◌, ◌%◌}
@@ -11,8 +12,6 @@ use Rattle.shapes.specs.declared.painters.Shape.{Shape}
 use Rattle.shapes.specs.declared.painters.Shape.TheVariants.{Line, FilledLine, Rectangle, Circle}
 use Rattle.ledger.specs.Calls.{Opening, Call, draw, points, dot, layer, marker, print, render}
 use Rattle.ledger.specs.Promise.{Every, nil, cons}
-use Rattle.ledger.specs.declared.labels.Choice.{Choice}
-use Rattle.ledger.specs.declared.labels.Choice.TheVariants.{Nothing, Colour}
 use Rattle.picture.specs.Encoding.{bytes_of, float_bytes, segment_bytes, pair_bytes, opening_bytes, shape_bytes, label_bytes, record_bytes, records_bytes, file_bytes, IsByte, Writable}
 
 -- one list after another
@@ -46,9 +45,9 @@ bytes-shape (Rectangle x y width height) colour =
     headed 3 31 tt tt (bytes-float x then bytes-float y then bytes-float width then bytes-float height then bytes-number 4 colour)
 bytes-shape (Circle x y radius) colour = headed 4 15 tt tt (bytes-float x then bytes-float y then bytes-float radius then bytes-number 4 colour)
 
-bytes-label : (x y : Float) (text : List ℕ) (choice : Choice) → Every IsByte text → Every IsByte (label_bytes x y text choice)
-bytes-label x y text Nothing all = headed 8 11 tt tt (bytes-float x then bytes-float y then bytes-number 1 (length text) then all)
-bytes-label x y text (Colour colour) all =
+bytes-label : (x y : Float) (text : List ℕ) (choice : Option ℕ) → Every IsByte text → Every IsByte (label_bytes x y text choice)
+bytes-label x y text None all = headed 8 11 tt tt (bytes-float x then bytes-float y then bytes-number 1 (length text) then all)
+bytes-label x y text (Some colour) all =
     headed 8 15 tt tt (bytes-float x then bytes-float y then bytes-number 4 colour then bytes-number 1 (length text) then all)
 
 bytes-record : (call : Call) → Writable call → Every IsByte (record_bytes call)

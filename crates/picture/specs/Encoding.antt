@@ -1,6 +1,6 @@
 -- A plain definition of writing a picture file: every field stands, but a label's colour that is none.
 -- The theorem `RoundTrip` says that what it writes is read back as the same opening and calls. Of files with absent fields it says nothing: their defaults are in `opening_of` and `call_of`.
-use Rattle.std.specs.Prelude.{ℕ, zero, suc, ◌/◌, ◌%◌, ◌<◌, ◌≤◌, ◌^◌, ◌≡◌, true, List, [], ◌∷◌, ◌++◌, Float, length}
+use Rattle.std.specs.Prelude.{ℕ, zero, suc, ◌/◌, ◌%◌, ◌<◌, ◌≤◌, ◌^◌, ◌≡◌, true, List, [], ◌∷◌, ◌++◌, Float, length, Option, Some, None}
 use Rattle.std.specs.Float.{binary64}
 use Rattle.std.specs.Float.Ieee.{to_bits, fits}
 use Rattle.walk.specs.declared.clip.Segment.{Segment}
@@ -9,8 +9,6 @@ use Rattle.shapes.specs.declared.painters.Shape.{Shape}
 use Rattle.shapes.specs.declared.painters.Shape.TheVariants.{Line, FilledLine, Rectangle, Circle}
 use Rattle.ledger.specs.Calls.{Opening, Call, draw, points, dot, layer, marker, print, render}
 use Rattle.ledger.specs.Promise.{Every}
-use Rattle.ledger.specs.declared.labels.Choice.{Choice}
-use Rattle.ledger.specs.declared.labels.Choice.TheVariants.{Nothing, Colour}
 use Rattle.form.specs.Forms.{max_file, opening_form}
 use Rattle.picture.specs.Opening.{opening_of}
 use Rattle.picture.specs.Meaning.{entries_of, calls_of}
@@ -43,9 +41,9 @@ shape_bytes (FilledLine s fill_to) colour = 2 ∷ 63 ∷ (segment_bytes s ++ (fl
 shape_bytes (Rectangle x y width height) colour = 3 ∷ 31 ∷ (float_bytes x ++ (float_bytes y ++ (float_bytes width ++ (float_bytes height ++ bytes_of 4 colour))))
 shape_bytes (Circle x y radius) colour = 4 ∷ 15 ∷ (float_bytes x ++ (float_bytes y ++ (float_bytes radius ++ bytes_of 4 colour)))
 
-abbrev pub label_bytes : Float → Float → List ℕ → Choice → List ℕ
-label_bytes x y text Nothing = 8 ∷ 11 ∷ (float_bytes x ++ (float_bytes y ++ (bytes_of 1 (length text) ++ text)))
-label_bytes x y text (Colour colour) = 8 ∷ 15 ∷ (float_bytes x ++ (float_bytes y ++ (bytes_of 4 colour ++ (bytes_of 1 (length text) ++ text))))
+abbrev pub label_bytes : Float → Float → List ℕ → Option ℕ → List ℕ
+label_bytes x y text None = 8 ∷ 11 ∷ (float_bytes x ++ (float_bytes y ++ (bytes_of 1 (length text) ++ text)))
+label_bytes x y text (Some colour) = 8 ∷ 15 ∷ (float_bytes x ++ (float_bytes y ++ (bytes_of 4 colour ++ (bytes_of 1 (length text) ++ text))))
 
 abbrev pub record_bytes : Call → List ℕ
 record_bytes (draw shape colour) = shape_bytes shape colour
@@ -88,9 +86,9 @@ WritableShape (Circle x y radius) = IsFloat x × IsFloat y × IsFloat radius
 abbrev pub WritablePair : Pair → Type 0
 WritablePair p = IsFloat p.x × IsFloat p.y
 
-abbrev pub WritableChoice : Choice → Type 0
-WritableChoice Nothing = Unit {0}
-WritableChoice (Colour colour) = colour < 2 ^ 32
+abbrev pub WritableChoice : Option ℕ → Type 0
+WritableChoice None = Unit {0}
+WritableChoice (Some colour) = colour < 2 ^ 32
 
 abbrev pub Writable : Call → Type 0
 Writable (draw shape colour) = WritableShape shape × (colour < 2 ^ 32)

@@ -7,8 +7,8 @@ use Rattle.ledger.specs.Ledger.{opened, Reply, refused, painted, done, shown, le
 use Rattle.picture.specs.Opening.{opening_of}
 use Rattle.picture.specs.Run.{opening_refusal, picture_of}
 use Rattle.picture.specs.Meaning.{Entries, end, broken, entry, entries_from, entries_of, calls_of}
-use Rattle.picture.specs.declared.run.Drawn.{Drawn}
-use Rattle.picture.specs.declared.run.Drawn.TheVariants as drawn
+use Rattle.picture.specs.Drawn.{Drawn}
+use Rattle.picture.specs.Drawn as drawn
 
 -- a refusal with its number and the place of the record's first byte, or the screen's cells and the painted count
 pub data Result : Type 0 where

@@ -8,17 +8,16 @@ use Rattle.ledger.specs.Promise.{open_state}
 use Rattle.ledger.specs.Outcomes.{given, answer_on, screen_on}
 use Rattle.ledger.specs.declared.screen.Area.{Area}
 use Rattle.ledger.specs.declared.state.Canvas.{Canvas}
-use Rattle.ledger.specs.declared.state.Answer.{Answer}
-use Rattle.ledger.specs.declared.state.Answer.TheVariants as answer
+use Rattle.ledger.specs.Answer.{Answer}
+use Rattle.ledger.specs.Answer as answer
 use Rattle.form.specs.Forms.{opening_end, opening_form, record_end}
-use Rattle.records.specs.Steps.{step_unless, refusal_at, record_state}
+use Rattle.records.specs.Step.{step_unless}
+use Rattle.records.specs.Steps.{Taken, refusal_at, record_state}
 use Rattle.picture.specs.Opening.{opening_of}
-use Rattle.records.specs.declared.steps.Taken.{Taken}
-use Rattle.picture.specs.declared.run.Ran.{Ran}
-use Rattle.picture.specs.declared.run.Stop.{Stop}
-use Rattle.picture.specs.declared.run.Stop.TheVariants as stop
-use Rattle.picture.specs.declared.run.Drawn.{Drawn}
-use Rattle.picture.specs.declared.run.Drawn.TheVariants as drawn
+use Rattle.picture.specs.Stop.{Stop}
+use Rattle.picture.specs.Stop as stop
+use Rattle.picture.specs.Drawn.{Drawn}
+use Rattle.picture.specs.Drawn as drawn
 
 -- ---- the opening: the form of its bytes, a size above the limits that the caller gives ('refuses more than 80 columns or 24 rows with 1'), then the call's own
 
@@ -57,6 +56,11 @@ run_from (suc n) file at s =
 -- a file has fewer records than bytes
 abbrev pub records_from : List ℕ → ℕ → State → Ended
 records_from file at s = run_from (length file) file at s
+
+-- the canvas after the records, and where they ended
+pub record Ran : Type 0 where
+  pub canvas : Canvas
+  pub stop : Stop
 
 abbrev pub ran_by : Ended → Ran
 ran_by e = record { canvas = e.state.canvas; stop = e.stop }

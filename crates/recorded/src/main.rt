@@ -4,132 +4,62 @@
 // something else, and how many agree.
 #![tactic(auto)]
 
-ghost use Rattle.std.specs.Prelude.{◌<◌};
-
-use bundle::{read_file, read_name_length, read_part};
+use bundle::{read_file, read_name};
 use report::program::print_layout;
 use std::io;
-use streams::print;
-
-// What the replay of a file comes to.
-#[derive(Clone, Copy)]
-enum Replayed {
-    Agrees,
-    Differs,
-    Unread,
-}
-
-// How many agree, how many differ, and whether the bundle goes on.
-#[derive(Clone, Copy)]
-struct Tally {
-    agree: u32,
-    differ: u32,
-    more: bool,
-}
-
-fn is_same(a: &[u8], b: &[u8]) -> bool {
-    if a.len() != b.len() {
-        return false;
-    }
-    let mut i = 0;
-    while i < a.len() {
-        if a[i] != b[i] {
-            return false;
-        }
-        i += 1;
-    }
-    true
-}
+use streams::{FILE_ROOM, Program};
 
 // Whether `layout` prints the answer for the file.
-fn compared(file: &[u8], answer: &[u8]) -> Replayed {
+fn is_answer(file: &[u8], answer: &[u8]) -> bool {
     let mut out = [0u8; 65536];
-    let n = print_layout(file, &mut out);
-    if is_same(&out[..n], answer) {
-        return Replayed::Agrees;
-    }
-    Replayed::Differs
+    let length = print_layout(file, &mut out);
+    &out[..length] == answer
 }
 
-// The file and its answer from the bundle. A file that fills the buffer is refused with 17 whatever
-// follows.
-fn replay(rt: &(impl io::Input + Eprint)) -> Replayed {
-    let mut file = [0u8; 65537];
-    let given = read_file(rt, b"recorded", &mut file);
-    if given.failed {
-        return Replayed::Unread;
-    }
+// Reads a file and its answer, and replays it. Answers whether they agree.
+fn replay<R: io::Input + Eprint>(program: &Program<'_, R>) -> io::Result<bool> {
+    let mut file = [0u8; FILE_ROOM];
+    let given = read_file(program, &mut file)?;
     let mut answer = [0u8; 65536];
-    let wanted = read_file(rt, b"recorded", &mut answer);
-    if wanted.failed {
-        return Replayed::Unread;
-    }
-    let n = given.count;
-    let m = wanted.count;
-    compared(&file[..n], &answer[..m])
+    let wanted = read_file(program, &mut answer)?;
+    Ok(is_answer(&file[..given], &answer[..wanted]))
 }
 
-fn print_difference(rt: &(impl Print + Eprint), name: &[u8]) {
-    let _ = rt.write_all(b"differs: ");
-    let _ = rt.write_all(name);
-    print(rt, b"recorded", b"\n");
+fn print_difference<R: Print + Eprint>(program: &Program<'_, R>, name: &[u8]) {
+    let _ = program.runtime.write_all(b"differs: ");
+    let _ = program.runtime.write_all(name);
+    let _ = program.print(b"\n");
 }
 
-// One file of the bundle.
-fn replay_next(rt: &(impl io::Input + Print + Eprint), t: Tally) -> Tally {
-    let length = read_name_length(rt, b"recorded");
-    if length > 255 {
-        return Tally { more: false, ..t };
-    }
+// One file of the bundle. Answers whether it agrees, and none at the end of the bundle.
+fn replay_next<R: io::Input + Print + Eprint>(
+    program: &Program<'_, R>,
+) -> io::Result<Option<bool>> {
     let mut name = [0u8; 255];
-    let part = read_part(rt, b"recorded", &mut name, length);
-    if part.failed {
-        return Tally { more: false, ..t };
-    }
-    let n = part.count;
-    let replayed = replay(rt);
-    match replayed {
-        Replayed::Agrees => {
-            let agree = std::num::wrapping_add_u32(t.agree, 1);
-            Tally { agree, ..t }
-        }
-        Replayed::Differs => {
-            print_difference(rt, &name[..n]);
-            let differ = std::num::wrapping_add_u32(t.differ, 1);
-            Tally { differ, ..t }
-        }
-        Replayed::Unread => Tally { more: false, ..t },
-    }
-}
-
-fn print_tally(rt: &(impl Print + Eprint), t: Tally) {
-    let Tally { agree, differ, .. } = t;
-    let _ = print!(rt; "{agree} agree, {differ}");
-    print(rt, b"recorded", b" differ\n");
-}
-
-// How many files may still follow: none where the bundle has ended.
-fn fewer(left: u32, more: bool) -> u32
-    requires { 0 < left }
-    ensures { result < left }
-{
-    if more {
-        return left - 1;
-    }
-    0
-}
-
-// The count ends the loop whatever is read.
-fn main(rt: HostRuntime) {
-    let mut t = Tally {
-        agree: 0,
-        differ: 0,
-        more: true,
+    let Some(length) = read_name(program, &mut name)? else {
+        return Ok(None);
     };
-    let mut left: u32 = 65536;
-    while left > 0 {
-        t = replay_next(&rt, t);
-        left = fewer(left, t.more);
+    let agrees = replay(program)?;
+    if !agrees {
+        print_difference(program, &name[..length]);
     }
-    print_tally(&rt, t);
+    Ok(Some(agrees))
+}
+
+// The range ends the loop whatever is read.
+fn main(rt: HostRuntime) {
+    let program = Program {
+        runtime: &rt,
+        name: b"recorded",
+    };
+    let mut agree: u32 = 0;
+    let mut differ: u32 = 0;
+    for _ in 0..65536u32 {
+        match replay_next(&program) {
+            Ok(Some(true)) => agree += 1,
+            Ok(Some(false)) => differ += 1,
+            Ok(None) | Err(_) => break,
+        }
+    }
+    let _ = program.written(println!(rt; "{agree} agree, {differ} differ"));
 }

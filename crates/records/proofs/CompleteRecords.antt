@@ -1,31 +1,18 @@
--- Records that have all their fields: the numbers in their bytes, the form and the end that they have, and what their call does in its two ways, refused and accepted.
-use mathlib.Core.Path.{◌≡◌, refl, sym, ◌∙◌}
+-- Records that have all their fields: the numbers in their bytes, the form and the end that they have.
+use mathlib.Core.Path.{◌≡◌, refl, sym}
 use mathlib.Core.Logic.{◌⊎◌, inl, inr}
 use mathlib.Core.Bool.{Bool, true, false, not, ◌&&◌, ◌||◌}
 use mathlib.Core.List.{List}
-use Prim.Native.Nat.{ℕ, ◌+◌, ◌-◌, ◌≤◌, ◌<◌, ◌^◌}
+use Prim.Native.Nat.{ℕ, ◌+◌, ◌-◌, ◌<◌, ◌^◌}
 use native.Mathlib.Omega.{arith}
 use lib.ListN.{length, take, drop}
 use borrow.Author.Rules.{part_to_end}
 use Rattle.floats.specs.Arithmetic.{bits}
 use Rattle.floats.specs.Domain.{in_domain}
 use Rattle.floats.proofs.Cases.{lt-or-le}
-use Rattle.lines.specs.Painted.{painted_by}
-use Rattle.shapes.specs.Drawing.{shape_dots}
-use Rattle.view.specs.Limits.{max_columns, max_rows, max_draws, reset}
-use Rattle.lines.specs.declared.painter.Painter.{Painter}
-use Rattle.shapes.specs.declared.painters.Shape.{Shape}
 use Rattle.shapes.specs.declared.painters.Shape.TheVariants.{Line, FilledLine, Circle}
 use Rattle.walk.specs.declared.clip.Segment.{Segment}
-use Rattle.ledger.specs.declared.state.Canvas.{Canvas}
-use Rattle.ledger.specs.declared.state.Called.{Called}
-use Rattle.ledger.specs.declared.state.Answer.TheVariants.{Refused, Painted}
-use Rattle.ledger.specs.Calls.{draw, bad_segment, bad_shape, call_dots}
-use Rattle.ledger.specs.Model.{refusal_on, drawn_canvas}
-use Rattle.ledger.specs.Outcomes.{given, refusal_by, painter_of}
-use Rattle.ledger.proofs.Refusals.{by-draw}
-use Rattle.ledger.proofs.CallSteps.{Gives, refused-gives}
-use Rattle.ledger.proofs.PaintSteps.{painter-gives}
+use Rattle.ledger.specs.Calls.{draw, bad_segment, bad_shape}
 use Rattle.records.specs.declared.complete.EndBits.{EndBits}
 use Rattle.form.specs.Fields.{stands, number_at}
 use Rattle.form.specs.Forms.{is_unknown, kind_at, map_at, widths_of, record_widths, record_end, record_form}
@@ -37,21 +24,6 @@ some-of-three : (a b c : Bool) → (not a || not b) || not c ≡ not ((a && b) &
 some-of-three true true c = refl
 some-of-three true false c = refl
 some-of-three false b c = refl
-
--- ---- a draw, by what the functions that it calls ensure
-module _ (canvas : Canvas) (cells labels : List ℕ) (shape : Shape) (colour : ℕ) (bad : Bool) (n : ℕ) (is-bad : bad ≡ bad_shape shape)
-    (says : (s : Shape) → bad ≡ bad_shape s → n ≡ refusal_by canvas (length cells) (length labels) (draw s colour)) where
-  pub draw-refused : (r : Called) → (n ≡ 0 → ⊥) → r ≡ record { canvas = canvas; answer = Refused n } → Gives (given canvas cells labels) (draw shape colour) r cells labels
-  draw-refused r some made = refused-gives canvas cells labels (draw shape colour) n r (says shape is-bad) some made
-
-  pub draw-accepted : (p : Painter) (k : ℕ) (after : List ℕ) (r : Called) → n ≡ 0
-      → (canvas.columns ≤ max_columns → canvas.rows ≤ max_rows → colour ≤ reset → p ≡ painter_of canvas colour)
-      → (k ≡ length (shape_dots p.view shape)) × (after ≡ painted_by p cells (shape_dots p.view shape))
-      → (canvas.draws < max_draws → canvas.painted + k < 2 ^ 64 → r ≡ record { canvas = drawn_canvas canvas k; answer = Painted k })
-      → Gives (given canvas cells labels) (draw shape colour) r after labels
-  unfolding call_dots refusal_on
-  draw-accepted p k after r e is-painter painted made =
-      painter-gives (given canvas cells labels) (draw shape colour) (by-draw shape colour) (sym e ∙ says shape is-bad) p k after r is-painter painted made
 
 -- ---- the call in the bytes: with every bit of the map each field's place is a number
 abbrev pub ends : EndBits → Segment
@@ -96,9 +68,6 @@ which k h = elim (lt-or-le k 2) [
     | inr d ↦ elim (lt-or-le k 4) [ inl e ↦ absurd (h.1.1 (omega (arith, d, e))) | inr e ↦ inr (inr (omega (arith, e, h.1.0))) ]
   ]
 ]
-
-pub remaining-kind : (k : ℕ) → CompleteKind k → (k ≡ 1 → ⊥) → (k ≡ 2 → ⊥) → k ≡ 4
-remaining-kind k h a b = elim (which k h) [ inl e ↦ absurd (a e) | inr (inl e) ↦ absurd (b e) | inr (inr e) ↦ e ]
 
 -- ---- the form and the end of a record
 record Bounds (file : List ℕ) (at kind : ℕ) : Type 0 where

@@ -1,6 +1,6 @@
 -- Laws of the records of a picture file.
-pub mod PointsRecords
-pub mod ByKind
-pub mod Kept
-pub mod RecordSteps
+pub mod Answered
 pub mod CompleteRecords
+pub mod Kept
+pub mod PointsRecords
+pub mod RecordSteps

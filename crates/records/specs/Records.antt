@@ -1,11 +1,9 @@
 -- The calls that the records of a picture file stand for: document 01, 'Picture file (ours) and its program'.
-use Rattle.std.specs.Prelude.{ℕ, ◌+◌, ◌≤◌, ◌≡◌, cond, List, [], ◌∷◌, eqb, length, take, drop}
+use Rattle.std.specs.Prelude.{ℕ, ◌+◌, ◌≤◌, ◌≡◌, cond, List, [], ◌∷◌, eqb, length, take, drop, Option, Some, None}
 use Rattle.walk.specs.declared.clip.Segment.{Segment}
 use Rattle.view.specs.Limits.{reset}
 use Rattle.shapes.specs.declared.painters.Shape.TheVariants.{Line, FilledLine, Rectangle, Circle}
 use Rattle.ledger.specs.Calls.{Call, draw, points, dot, layer, marker, print}
-use Rattle.ledger.specs.declared.labels.Choice.{Choice}
-use Rattle.ledger.specs.declared.labels.Choice.TheVariants.{Nothing, Colour}
 use Rattle.form.specs.Fields.{number_at, stands, place_of, number_field, float_field}
 use Rattle.form.specs.Forms.{max_file, line_widths, filled_line_widths, circle_widths, points_widths, pair_count, marker_widths, text_place, dot_widths, kind_at, map_at, part_at}
 use Rattle.lists.specs.Lists.{pairs_at}
@@ -41,8 +39,8 @@ abbrev pub marker_call : ℕ → List ℕ → Call
 marker_call map part = marker (number_field map part marker_widths 0 1) (number_field map part marker_widths 1 0x20)
 
 -- 'a label's colour none'
-abbrev pub label_colour : ℕ → List ℕ → Choice
-label_colour map part = cond (stands map 4) (Colour (number_at part (place_of map (8 ∷ 8 ∷ []) 2) 4)) Nothing
+abbrev pub label_colour : ℕ → List ℕ → Option ℕ
+label_colour map part = cond (stands map 4) (Some (number_at part (place_of map (8 ∷ 8 ∷ []) 2) 4)) None
 
 abbrev pub label_text : ℕ → List ℕ → List ℕ
 label_text map part = cond (stands map 8) (take (number_at part (text_place map) 1) (drop (text_place map + 1) part)) []

@@ -1,26 +1,16 @@
 -- What a record gives for every file and every store: the step in the file, and the canvas and the lent lists after it.
-use Rattle.std.specs.Prelude.{ℕ, zero, suc, List}
+use Rattle.std.specs.Prelude.{ℕ, List}
 use Rattle.ledger.specs.Ledger.{unless}
 use Rattle.ledger.specs.Model.{State, or_refusal, refusal_on, state_after}
-use Rattle.ledger.specs.declared.state.Answer.{Answer}
-use Rattle.ledger.specs.declared.state.Answer.TheVariants as answer
+use Rattle.ledger.specs.declared.state.Canvas.{Canvas}
 use Rattle.form.specs.Forms.{record_end, record_form}
 use Rattle.records.specs.Records.{record_call}
-use Rattle.records.specs.declared.steps.Step.{Step}
-use Rattle.records.specs.declared.steps.Step.TheVariants as step
-use Rattle.records.specs.declared.steps.Taken.{Taken}
+use Rattle.records.specs.Step.{Step, step_unless}
 
--- the next place, or the refusal's number
-abbrev pub step_unless : ℕ → ℕ → Step
-step_unless zero next = step.Next next
-step_unless (suc number) next = step.Refused (suc number)
-
--- a call's answer as a step
-abbrev pub step_by : Answer → ℕ → Step
-step_by (answer.Refused number) next = step.Refused number
-step_by (answer.Painted n) next = step.Next next
-step_by answer.Done next = step.Next next
-step_by (answer.Rendered n label_cells) next = step.Next next
+-- the canvas after an opening or a record, and the step
+pub record Taken : Type 0 where
+  pub canvas : Canvas
+  pub step : Step
 
 -- ---- a record: the form of its bytes, then the call's own
 

@@ -1,19 +1,38 @@
 // Records of lines, filled lines and circles that have all their fields, as most do: the fields then have
 // fixed places, and neither these nor the record's form need working out. Any other record is read field by
 // field in calls.rt; steps.rt refuses one of these that the file cuts short, or in a file that is too long.
-ghost use Rattle.std.specs.Prelude.{◌≡◌};
+ghost use Rattle.std.specs.Prelude.{◌≡◌, IfSome};
 ghost use Rattle.floats.specs.Arithmetic.{bits};
-ghost use Rattle.ledger.specs.Calls.{bad_segment};
-ghost use Rattle.ledger.specs.Model.{state_after};
-ghost use Rattle.ledger.specs.Outcomes.{given, called_on};
+ghost use Rattle.ledger.specs.Calls.{draw, bad_segment, bad_shape};
+ghost use Rattle.ledger.specs.Model.{refusal_on, state_after};
+ghost use Rattle.ledger.specs.Outcomes.{given};
+ghost use Rattle.refusals.specs.Refusals.{number_in};
 ghost use Rattle.form.specs.Fields.{number_at};
-ghost use Rattle.records.specs.Records.{line_call, filled_line_call, circle_call, call_of, complete_map, complete_size, CompleteKind, CompleteAt};
+ghost use Rattle.records.specs.Complete.{complete_number};
+ghost use Rattle.records.specs.Records.{line_call, filled_line_call, circle_call, call_of, complete_map, complete_size, CompleteAt};
 
-use canvas::calls::{draw_refusal, drawn, painter_for, refused};
-use form::fields::{from_bits, is_far, number32, number64};
-use ledger::state::{Called, Canvas};
-use shapes::painters::{paint_circle, paint_filled_line, paint_line};
+use canvas::calls::{count_draw, draw_refusal, painter_for};
+use form::fields::{FieldValue, from_bits, is_far};
+use ledger::state::Canvas;
+use refusals::refusal::Refusal;
+use shapes::painters::{Shape, paint_shape};
 use walk::clip::Segment;
+
+// The kinds of such records.
+#[derive(Clone, Copy, PartialEq, Eq, Debug)]
+pub(crate) enum Complete {
+    Line,
+    FilledLine,
+    Circle,
+}
+
+// A shape with its colour, and whether one of its numbers is outside the domain.
+#[derive(Clone, Copy)]
+struct Judged {
+    shape: Shape,
+    bad: bool,
+    colour: u32,
+}
 
 // The bits of a line's two ends.
 #[derive(Clone, Copy)]
@@ -27,11 +46,12 @@ struct EndBits {
 fn end_bits(part: &[u8]) -> EndBits
     ensures { result ≡ record { x1 = number_at part.now 0 8; y1 = number_at part.now 8 8; x2 = number_at part.now 16 8; y2 = number_at part.now 24 8 } }
 {
-    let x1 = number64(part, 0);
-    let y1 = number64(part, 8);
-    let x2 = number64(part, 16);
-    let y2 = number64(part, 24);
-    EndBits { x1, y1, x2, y2 }
+    EndBits {
+        x1: u64::read(part, 0),
+        y1: u64::read(part, 8),
+        x2: u64::read(part, 16),
+        y2: u64::read(part, 24),
+    }
 }
 
 // Whether a number of a line is outside the domain.
@@ -44,133 +64,123 @@ fn is_far_line(e: EndBits) -> bool
 fn ends_of(e: EndBits) -> Segment
     ensures { result ≡ record { x1 = bits e.x1; y1 = bits e.y1; x2 = bits e.x2; y2 = bits e.y2 } }
 {
-    let x1 = from_bits(e.x1);
-    let y1 = from_bits(e.y1);
-    let x2 = from_bits(e.x2);
-    let y2 = from_bits(e.y2);
-    Segment { x1, y1, x2, y2 }
+    Segment {
+        x1: from_bits(e.x1),
+        y1: from_bits(e.y1),
+        x2: from_bits(e.x2),
+        y2: from_bits(e.y2),
+    }
 }
 
-// What `draw` does, of a line, a filled line and a circle in the bytes.
-fn complete_line(part: &[u8], canvas: Canvas, cells: &mut [u32], labels: &[u32]) -> Called
-    ensures { (result ≡ called_on (given canvas cells.old labels.now) (line_call 31 part.now))
-        × ((cells.new ≡ (state_after (given canvas cells.old labels.now) (line_call 31 part.now)).cells)
-        × (labels.now ≡ (state_after (given canvas cells.old labels.now) (line_call 31 part.now)).labels)) }
+// A line, a filled line and a circle in the bytes.
+fn complete_line(part: &[u8]) -> Judged
+    ensures call { draw result.shape result.colour ≡ line_call 31 part.now }
+    ensures bad { result.bad ≡ bad_shape result.shape }
 {
     let e = end_bits(part);
-    let colour = number32(part, 32);
-    let bad = is_far_line(e);
-    let n = draw_refusal(canvas, cells.len(), labels.len(), bad, colour);
-    if n != 0 {
-        return refused(canvas, n);
+    Judged {
+        shape: Shape::Line(ends_of(e)),
+        bad: is_far_line(e),
+        colour: u32::read(part, 32),
     }
-    let p = painter_for(canvas, colour);
-    let s = ends_of(e);
-    let painted = paint_line(&mut *cells, p, s);
-    drawn(canvas, painted)
 }
 
-fn complete_filled_line(part: &[u8], canvas: Canvas, cells: &mut [u32], labels: &[u32]) -> Called
-    ensures { (result ≡ called_on (given canvas cells.old labels.now) (filled_line_call 63 part.now))
-        × ((cells.new ≡ (state_after (given canvas cells.old labels.now) (filled_line_call 63 part.now)).cells)
-        × (labels.now ≡ (state_after (given canvas cells.old labels.now) (filled_line_call 63 part.now)).labels)) }
+fn complete_filled_line(part: &[u8]) -> Judged
+    ensures call { draw result.shape result.colour ≡ filled_line_call 63 part.now }
+    ensures bad { result.bad ≡ bad_shape result.shape }
 {
     let e = end_bits(part);
-    let fill = number64(part, 32);
-    let colour = number32(part, 40);
-    let bad = is_far_line(e) | is_far(fill);
-    let n = draw_refusal(canvas, cells.len(), labels.len(), bad, colour);
-    if n != 0 {
-        return refused(canvas, n);
+    let fill = u64::read(part, 32);
+    Judged {
+        shape: Shape::FilledLine(ends_of(e), from_bits(fill)),
+        bad: is_far_line(e) | is_far(fill),
+        colour: u32::read(part, 40),
     }
-    let p = painter_for(canvas, colour);
-    let s = ends_of(e);
-    let fill_to_y = from_bits(fill);
-    let painted = paint_filled_line(&mut *cells, p, s, fill_to_y);
-    drawn(canvas, painted)
 }
 
-fn complete_circle(part: &[u8], canvas: Canvas, cells: &mut [u32], labels: &[u32]) -> Called
-    ensures { (result ≡ called_on (given canvas cells.old labels.now) (circle_call 15 part.now))
-        × ((cells.new ≡ (state_after (given canvas cells.old labels.now) (circle_call 15 part.now)).cells)
-        × (labels.now ≡ (state_after (given canvas cells.old labels.now) (circle_call 15 part.now)).labels)) }
+fn complete_circle(part: &[u8]) -> Judged
+    ensures call { draw result.shape result.colour ≡ circle_call 15 part.now }
+    ensures bad { result.bad ≡ bad_shape result.shape }
 {
-    let a = number64(part, 0);
-    let b = number64(part, 8);
-    let c = number64(part, 16);
-    let colour = number32(part, 24);
-    let bad = (is_far(a) | is_far(b)) | is_far(c);
-    let n = draw_refusal(canvas, cells.len(), labels.len(), bad, colour);
-    if n != 0 {
-        return refused(canvas, n);
+    let x = u64::read(part, 0);
+    let y = u64::read(part, 8);
+    let radius = u64::read(part, 16);
+    Judged {
+        shape: Shape::Circle(from_bits(x), from_bits(y), from_bits(radius)),
+        bad: (is_far(x) | is_far(y)) | is_far(radius),
+        colour: u32::read(part, 24),
     }
-    let p = painter_for(canvas, colour);
-    let x = from_bits(a);
-    let y = from_bits(b);
-    let radius = from_bits(c);
-    let painted = paint_circle(&mut *cells, p, x, y, radius);
-    drawn(canvas, painted)
+}
+
+fn judge(kind: Complete, part: &[u8]) -> Judged
+    ensures call { draw result.shape result.colour ≡ call_of (complete_number kind) (complete_map (complete_number kind)) part.now }
+    ensures bad { result.bad ≡ bad_shape result.shape }
+{
+    match kind {
+        Complete::Line => complete_line(part),
+        Complete::FilledLine => complete_filled_line(part),
+        Complete::Circle => complete_circle(part),
+    }
 }
 
 // The bytes of all fields, by kind.
-pub(crate) fn complete_size(kind: u8) -> usize
-    ensures { result ≡ complete_size kind }
+pub(crate) fn complete_size(kind: Complete) -> usize
+    ensures { result ≡ complete_size (complete_number kind) }
 {
-    if kind == 1 {
-        return 36;
+    match kind {
+        Complete::Line => 36,
+        Complete::FilledLine => 44,
+        Complete::Circle => 28,
     }
-    if kind == 2 {
-        return 44;
-    }
-    28
 }
 
-// The kind, 1, 2 or 4, of a record at a place that has all its fields; else 0.
-pub(crate) fn complete_kind(file: &[u8], at: usize) -> u8
-    ensures { (result ≡ 0 → ⊥) → CompleteAt file.now at result }
+// The kind of a record at a place that has all its fields.
+pub(crate) fn complete_kind(file: &[u8], at: usize) -> Option<Complete>
+    ensures { IfSome result (λ kind. CompleteAt file.now at (complete_number kind)) }
 {
-    if file.len() > 65536 {
-        return 0;
+    if file.len() > 65536 || at > 65536 || file.len() < at + 30 {
+        return None;
     }
-    if at > 65536 {
-        return 0;
+    let kind = match (file[at], file[at + 1]) {
+        (1, 31) => Complete::Line,
+        (2, 63) => Complete::FilledLine,
+        (4, 15) => Complete::Circle,
+        _ => return None,
+    };
+    if file.len() - at < 2 + complete_size(kind) {
+        return None;
     }
-    if file.len() < at + 30 {
-        return 0;
-    }
-    let kind = file[at];
-    let map = file[at + 1];
-    let rest = file.len() - at;
-    if ((kind == 1) & (map == 31)) & (rest >= 38) {
-        return 1;
-    }
-    if ((kind == 2) & (map == 63)) & (rest >= 46) {
-        return 2;
-    }
-    if (kind == 4) & (map == 15) {
-        return 4;
-    }
-    0
+    Some(kind)
+}
+
+// What `draw` does, of a shape that was judged.
+fn draw_judged(
+    d: Judged,
+    canvas: &mut Canvas,
+    cells: &mut [u32],
+    labels: &[u32],
+) -> Result<(), Refusal>
+    requires { d.bad ≡ bad_shape d.shape }
+    ensures refusal { number_in result ≡ refusal_on (given canvas.old cells.old labels.now) (draw d.shape d.colour) }
+    ensures state { given canvas.new cells.new labels.now ≡ state_after (given canvas.old cells.old labels.now) (draw d.shape d.colour) }
+{
+    draw_refusal(*canvas, cells.len(), labels.len(), d.bad, d.colour)?;
+    let p = painter_for(*canvas, d.colour);
+    let n = paint_shape(&mut *cells, p, d.shape);
+    count_draw(&mut *canvas, n);
+    Ok(())
 }
 
 // The call of a record that has all its fields.
 pub(crate) fn complete_call(
-    kind: u8,
+    kind: Complete,
     part: &[u8],
-    canvas: Canvas,
+    canvas: &mut Canvas,
     cells: &mut [u32],
     labels: &[u32],
-) -> Called
-    requires { CompleteKind kind }
-    ensures { (result ≡ called_on (given canvas cells.old labels.now) (call_of kind (complete_map kind) part.now))
-        × ((cells.new ≡ (state_after (given canvas cells.old labels.now) (call_of kind (complete_map kind) part.now)).cells)
-        × (labels.now ≡ (state_after (given canvas cells.old labels.now) (call_of kind (complete_map kind) part.now)).labels)) }
+) -> Result<(), Refusal>
+    ensures refusal { number_in result ≡ refusal_on (given canvas.old cells.old labels.now) (call_of (complete_number kind) (complete_map (complete_number kind)) part.now) }
+    ensures state { given canvas.new cells.new labels.now ≡ state_after (given canvas.old cells.old labels.now) (call_of (complete_number kind) (complete_map (complete_number kind)) part.now) }
 {
-    if kind == 1 {
-        return complete_line(part, canvas, &mut *cells, labels);
-    }
-    if kind == 2 {
-        return complete_filled_line(part, canvas, &mut *cells, labels);
-    }
-    complete_circle(part, canvas, &mut *cells, labels)
+    draw_judged(judge(kind, part), &mut *canvas, &mut *cells, labels)
 }

@@ -1,99 +1,54 @@
 // A record of a file: its form, its call, and the step that it makes.
 ghost use Rattle.std.specs.Prelude.{◌≡◌};
 ghost use Rattle.ledger.specs.Outcomes.{given};
+ghost use Rattle.records.specs.Complete.{complete_number};
 ghost use Rattle.records.specs.Records.{CompleteAt};
-ghost use Rattle.records.specs.Steps.{step_by, record_state, record_taken};
+ghost use Rattle.records.specs.Step.{step_in};
+ghost use Rattle.records.specs.Steps.{record_state, record_taken};
 
 use crate::calls::record_call;
-use crate::complete::{complete_call, complete_kind, complete_size};
+use crate::complete::{Complete, complete_call, complete_kind, complete_size};
+use form::kind::Kind;
 use form::sizes::record_form;
-use ledger::state::{Answer, Canvas};
-
-// The next place in the file, or the refusal with document 01's number.
-#[derive(Clone, Copy)]
-pub enum Step {
-    Next(usize),
-    Refused(u8),
-}
-
-// The canvas after an opening or a record, and the step.
-#[derive(Clone, Copy)]
-pub struct Taken {
-    pub canvas: Canvas,
-    pub step: Step,
-}
-
-// A call's answer as a step.
-pub fn step_of(answer: Answer, next: usize) -> Step
-    ensures { result ≡ step_by answer next }
-{
-    match answer {
-        Answer::Refused(number) => Step::Refused(number),
-        Answer::Painted(_painted) => Step::Next(next),
-        Answer::Done => Step::Next(next),
-        Answer::Rendered(_painted, _label_cells) => Step::Next(next),
-    }
-}
+use ledger::state::Canvas;
+use refusals::refusal::Refusal;
 
 // A record that has all its fields.
 fn take_complete(
-    kind: u8,
+    kind: Complete,
     file: &[u8],
     at: usize,
-    canvas: Canvas,
+    canvas: &mut Canvas,
     cells: &mut [u32],
     labels: &[u32],
-) -> Taken
-    requires { CompleteAt file.now at kind }
-    ensures { (result ≡ record_taken (given canvas cells.old labels.now) file.now at)
-        × ((cells.new ≡ (record_state (given canvas cells.old labels.now) file.now at).cells)
-        × (labels.now ≡ (record_state (given canvas cells.old labels.now) file.now at).labels)) }
+) -> Result<usize, Refusal>
+    requires { CompleteAt file.now at (complete_number kind) }
+    ensures step { step_in result ≡ (record_taken (given canvas.old cells.old labels.now) file.now at).step }
+    ensures state { given canvas.new cells.new labels.now ≡ record_state (given canvas.old cells.old labels.now) file.now at }
 {
     let first = at + 2;
-    let called = complete_call(kind, &file[first..], canvas, &mut *cells, labels);
-    let answer = called.answer;
-    let size = complete_size(kind);
-    let step = step_of(answer, first + size);
-    let after_it = called.canvas;
-    Taken {
-        canvas: after_it,
-        step,
-    }
+    complete_call(kind, &file[first..], &mut *canvas, &mut *cells, labels)?;
+    Ok(first + complete_size(kind))
 }
 
-// The record whose first byte stands at a place: its call is made, or it is refused.
+// The record whose first byte stands at a place: its call is made, or it is refused and changes nothing.
 pub fn take_record(
     file: &[u8],
     at: usize,
-    canvas: Canvas,
+    canvas: &mut Canvas,
     cells: &mut [u32],
     labels: &mut [u32],
-) -> Taken
-    ensures { (result ≡ record_taken (given canvas cells.old labels.old) file.now at)
-        × ((cells.new ≡ (record_state (given canvas cells.old labels.old) file.now at).cells)
-        × (labels.new ≡ (record_state (given canvas cells.old labels.old) file.now at).labels)) }
+) -> Result<usize, Refusal>
+    ensures step { step_in result ≡ (record_taken (given canvas.old cells.old labels.old) file.now at).step }
+    ensures state { given canvas.new cells.new labels.new ≡ record_state (given canvas.old cells.old labels.old) file.now at }
 {
-    let complete = complete_kind(file, at);
-    if complete != 0 {
-        return take_complete(complete, file, at, canvas, &mut *cells, &*labels);
+    if let Some(kind) = complete_kind(file, at) {
+        return take_complete(kind, file, at, &mut *canvas, &mut *cells, &*labels);
     }
-    let form = record_form(file, at);
-    let number = form.number;
-    if number != 0 {
-        return Taken {
-            canvas,
-            step: Step::Refused(number),
-        };
-    }
-    let first = at + 2;
-    let kind = file[at];
+    let end = record_form(file, at)?;
+    let kind = Kind::try_from(file[at])?;
     let map = file[at + 1];
-    let called = record_call(kind, map, &file[first..], canvas, &mut *cells, &mut *labels);
-    let answer = called.answer;
-    let step = step_of(answer, form.end);
-    let after_it = called.canvas;
-    Taken {
-        canvas: after_it,
-        step,
-    }
+    let part = &file[at + 2..];
+    record_call(kind, map, part, &mut *canvas, &mut *cells, &mut *labels)?;
+    Ok(end)
 }

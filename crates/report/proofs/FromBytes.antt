@@ -21,13 +21,16 @@ use Rattle.form.specs.Forms.{max_file, opening_form}
 use Rattle.picture.specs.Opening.{opening_of}
 use Rattle.picture.specs.Run.{too_large, form_or_size, opening_refusal, Picture}
 use Rattle.picture.specs.Meaning.{entries_of, calls_of}
-use Rattle.picture.specs.Faithful.{Result, refused_at, last_call, judged, result_of}
-use Rattle.picture.specs.declared.run.Drawn.{Drawn}
-use Rattle.picture.specs.declared.run.Drawn.TheVariants.{Shown, Refused}
+use Rattle.picture.specs.Faithful.{Result, refused_at, last_call, judged, result_of, shown_as}
+use Rattle.picture.specs.Drawn.{Drawn}
+use Rattle.picture.specs.Drawn.{Shown, Refused}
 use Rattle.picture.proofs.Faithful.{faithful}
 use Rattle.report.specs.Screen.{blank_screen, columns_of, rows_of, picture_size}
-use Rattle.report.specs.Printing.{listing_by, listing_of, terminal_by, terminal_of, on_blank}
-use Rattle.report.specs.Program.{widest, highest, opening_fault, fault, blank, result_in, listing_in, terminal_in, layout_prints, show_prints}
+use Rattle.report.specs.Printing.{printed_by, printed_of, on_blank}
+use Rattle.report.specs.Program.{widest, highest, opening_fault, fault, blank, result_in, listing_in, terminal_in, layout_prints, show_prints, text_in, printed_in}
+use Rattle.text.specs.Screen.{Cells}
+use Rattle.text.specs.Listing.{listing}
+use Rattle.text.specs.Terminal.{terminal}
 use Rattle.report.proofs.Blank.{blank-screen-is}
 
 -- ---- the opening: with long enough stores 5 never comes
@@ -66,15 +69,28 @@ size_room file columns rows = go (ltb columns (columns_of file)) (ltb rows (rows
 
 -- ---- what is printed of an outcome, by the cells of the screen
 
-lists-cells : (file words : List ℕ) (d : Drawn) → listing_by file words d ≡ listing_in (opening_of file) (result_of d words)
+text-cells : (text : ℕ → ℕ → ℕ → Cells → List ℕ) (file words : List ℕ) (d : Drawn) → printed_by text file words d ≡ text_in text (opening_of file) (result_of d words)
 unfolding opening_of
-lists-cells file words (Shown painted label_cells) = refl
-lists-cells file words (Refused number place) = refl
+text-cells text file words (Shown painted label_cells) = refl
+text-cells text file words (Refused number place) = refl
 
-shows-cells : (file words : List ℕ) (d : Drawn) → terminal_by file words d ≡ terminal_in (opening_of file) (result_of d words)
-unfolding opening_of
-shows-cells file words (Shown painted label_cells) = refl
-shows-cells file words (Refused number place) = refl
+-- ---- the two programs' texts
+
+lists : (o : Opening) (r : Result) → text_in listing o r ≡ listing_in o r
+lists o (refused_at number place) = refl
+lists o (shown_as cells painted) = refl
+
+shows : (o : Opening) (r : Result) → text_in (λ columns rows painted cells. terminal columns rows cells) o r ≡ terminal_in o r
+shows o (refused_at number place) = refl
+shows o (shown_as cells painted) = refl
+
+pub layout-printed : (file : List ℕ) → printed_in listing file ≡ layout_prints file
+unfolding printed_in layout_prints
+layout-printed file = lists (opening_of file) (result_in widest highest file)
+
+pub show-printed : (file : List ℕ) → printed_in (λ columns rows painted cells. terminal columns rows cells) file ≡ show_prints file
+unfolding printed_in show_prints
+show-printed file = shows (opening_of file) (result_in widest highest file)
 
 -- ---- a whole file with limits, stores that hold a canvas of that size, and a screen that holds its cells
 
@@ -124,25 +140,16 @@ module _ (file cells labels screen : List ℕ) (columns rows : ℕ) (cell_room :
           let refused = faithful.opening file columns rows cells labels (blank_screen lent) (λ z. omega (arith, sym fault-same ∙ z, e)) in
           ap (λ (d : Drawn). result_of d drawn.screen) refused ∙ ap (λ (n : ℕ). refused_at n 0) (fault-same ∙ e)
 
-  -- the listing, and the terminal's bytes
-  pub lists-result : listing_of file drawn ≡ listing_in (opening_of file) (result_in columns rows file)
-  lists-result = lists-cells file drawn.screen drawn.drawn ∙ ap (listing_in (opening_of file)) result-same
-
-  pub shows-result : terminal_of file drawn ≡ terminal_in (opening_of file) (result_in columns rows file)
-  shows-result = shows-cells file drawn.screen drawn.drawn ∙ ap (terminal_in (opening_of file)) result-same
+  -- what is printed of it
+  pub text-result : (text : ℕ → ℕ → ℕ → Cells → List ℕ) → printed_of text file drawn ≡ text_in text (opening_of file) (result_in columns rows file)
+  text-result text = text-cells text file drawn.screen drawn.drawn ∙ ap (text_in text (opening_of file)) result-same
 
 -- ---- the programs
 
 module _ (file cells labels screen : List ℕ) {n : ℕ} (size : n ≡ picture_size file widest highest) (cell_room : widest * highest * cell_words ≤ length cells)
     (label-room : max_labels * label_words ≤ length labels) (screen-room : widest * highest * screen_words ≤ length screen) where
-  pub listed-by-bytes : listing_of file (on_blank file widest highest cells labels (take n screen)) ≡ layout_prints file
-  unfolding layout_prints
-  listed-by-bytes =
-      ap (λ (k : ℕ). listing_of file (on_blank file widest highest cells labels (take k screen))) size
-      ∙ lists-result file cells labels screen widest highest cell_room label-room screen-room
-
-  pub shown-by-bytes : terminal_of file (on_blank file widest highest cells labels (take n screen)) ≡ show_prints file
-  unfolding show_prints
-  shown-by-bytes =
-      ap (λ (k : ℕ). terminal_of file (on_blank file widest highest cells labels (take k screen))) size
-      ∙ shows-result file cells labels screen widest highest cell_room label-room screen-room
+  pub printed-by-bytes : (text : ℕ → ℕ → ℕ → Cells → List ℕ) → printed_of text file (on_blank file widest highest cells labels (take n screen)) ≡ printed_in text file
+  unfolding printed_in
+  printed-by-bytes text =
+      ap (λ (k : ℕ). printed_of text file (on_blank file widest highest cells labels (take k screen))) size
+      ∙ text-result file cells labels screen widest highest cell_room label-room screen-room text

@@ -1,17 +1,16 @@
 -- What is printed of a picture on a blank screen, by its two outcomes.
 use Prim.Native.Nat.{ℕ}
-use mathlib.Core.Path.{◌≡◌, sym, ◌∙◌}
+use mathlib.Core.Path.{◌≡◌}
 use mathlib.Core.List.{List}
 use lib.ListN.{length}
 use Rattle.picture.specs.Run.{Picture, picture_of}
-use Rattle.picture.specs.declared.run.Drawn.{Drawn}
-use Rattle.picture.specs.declared.run.Drawn.TheVariants.{Shown, Refused}
+use Rattle.picture.specs.Drawn.{Drawn}
+use Rattle.picture.specs.Drawn.{Shown, Refused}
 use Rattle.text.specs.Bytes.{laid}
-use Rattle.text.specs.Screen.{cells_of}
-use Rattle.text.specs.Listing.{listing, refusal_line}
-use Rattle.text.specs.Terminal.{terminal}
+use Rattle.text.specs.Screen.{Cells, cells_of}
+use Rattle.text.specs.Listing.{refusal_line}
 use Rattle.report.specs.Screen.{blank_screen, columns_of, rows_of}
-use Rattle.report.specs.Printing.{listing_of, terminal_of, on_blank}
+use Rattle.report.specs.Printing.{printed_of, on_blank}
 
 -- bytes laid from the start of out, and their number
 abbrev pub Laid : List ℕ → List ℕ → List ℕ → ℕ → Type 0
@@ -29,17 +28,10 @@ pub on-blank : (file cells labels screen : List ℕ) (widest highest : ℕ) {bla
     → (drawn ≡ (on_blank file widest highest cells labels screen).drawn) × Left (on_blank file widest highest cells labels screen) cells' labels' screen'
 on-blank file cells labels screen widest highest e w = rw e at w
 
-module _ (file : List ℕ) (p : Picture) {drawn : Drawn} (is : drawn ≡ p.drawn) where
-  pub lists-shown : (painted label_cells : ℕ) {columns rows : ℕ} {words : List ℕ} → drawn ≡ Shown painted label_cells → columns ≡ columns_of file → rows ≡ rows_of file → words ≡ p.screen
-      → listing columns rows painted (cells_of words) ≡ listing_of file p
-  lists-shown painted label_cells d e f g = rw (e, f, g, sym is ∙ d)
+module _ (text : ℕ → ℕ → ℕ → Cells → List ℕ) (file : List ℕ) (p : Picture) where
+  pub prints-shown : (painted label_cells : ℕ) {columns rows : ℕ} {words : List ℕ} → Shown painted label_cells ≡ p.drawn → columns ≡ columns_of file → rows ≡ rows_of file → words ≡ p.screen
+      → text columns rows painted (cells_of words) ≡ printed_of text file p
+  prints-shown painted label_cells d e f g = rw (e, f, g, ← d)
 
-  pub lists-refused : (number place : ℕ) → drawn ≡ Refused number place → refusal_line number place ≡ listing_of file p
-  lists-refused number place d = rw (sym is ∙ d)
-
-  pub shows-shown : (painted label_cells : ℕ) {columns rows : ℕ} {words : List ℕ} → drawn ≡ Shown painted label_cells → columns ≡ columns_of file → rows ≡ rows_of file → words ≡ p.screen
-      → terminal columns rows (cells_of words) ≡ terminal_of file p
-  shows-shown painted label_cells d e f g = rw (e, f, g, sym is ∙ d)
-
-  pub shows-refused : (number place : ℕ) → drawn ≡ Refused number place → refusal_line number place ≡ terminal_of file p
-  shows-refused number place d = rw (sym is ∙ d)
+  pub prints-refused : (number place : ℕ) → Refused number place ≡ p.drawn → refusal_line number place ≡ printed_of text file p
+  prints-refused number place d = rw (← d)

@@ -1,5 +1,6 @@
 -- Every cell that the ledger shows on a blank screen has a symbol below 2^21 and two colours up to Reset: a call that is accepted keeps
 -- layers and labels so.
+use Rattle.std.specs.Prelude.{Option, Some, None, ℕ}
 use Prim.Native.Nat.{ℕ, zero, suc, ◌+◌, ◌-◌, ◌*◌, ◌/◌, ◌%◌, ◌^◌, ◌≤◌, ◌<◌}
 use mathlib.Core.Path.{◌≡◌, refl}
 use mathlib.Core.Bool.{Bool, true, false, cond, ◌&&◌, ◌||◌}
@@ -9,9 +10,11 @@ use lib.Dec.{eqb, ltb, leb}
 use lib.ListN.{length, get_or}
 use borrow.Author.Tests.{ltb-true, ltb-false}
 use Rattle.floats.proofs.Cases.{or-false-left, or-false-right, and-true-right}
-use Rattle.walk.specs.declared.bresenham.Dot.{Dot}
+use Rattle.walk.specs.declared.bresenham.Dot as walked
 use Rattle.grids.specs.Lists.{keep, over, last_word}
-use Rattle.grids.specs.Markers.{is_scalar, is_marker, is_half_block, is_block}
+use Rattle.grids.specs.Markers.{marker_of, is_scalar, is_marker, is_half_block, is_block}
+use Rattle.grids.specs.declared.markers.Marker.{Marker}
+use Rattle.grids.specs.declared.markers.Marker.TheVariants.{Braille, Dot, Block, Bar, HalfBlock, Quadrant, Sextant}
 use Rattle.grids.specs.Symbols.{symbol_of}
 use Rattle.grids.specs.Dots.{Inked, in_cell, pattern_of, last_ink, is_upper, is_lower, sets_nothing, half_block_cell, set_by}
 use Rattle.grids.specs.Painting.{inked}
@@ -25,8 +28,6 @@ use Rattle.ledger.specs.Calls.{Opening, Call, draw, points, dot, layer, marker, 
 use Rattle.ledger.specs.Ledger.{Layer, Label, Ledger, layers, layer_at, picture_of, choice_word, placed_of, screen_cell, accepted}
 use Rattle.ledger.specs.declared.screen.Area.{Area}
 use Rattle.ledger.specs.declared.screen.ScreenCell.{ScreenCell}
-use Rattle.ledger.specs.declared.labels.Choice.{Choice}
-use Rattle.ledger.specs.declared.labels.Choice.TheVariants.{Nothing, Colour}
 use Rattle.ledger.proofs.Refusals.{marker-valid}
 use Rattle.report.specs.Program.{blank}
 use Rattle.report.proofs.Blank.{blank-symbol, blank-colour}
@@ -96,32 +97,44 @@ scalar_below c e = go (ltb c 0xD800) refl e
     go true s e = omega (arith, ltb-true c 0xD800 s)
     go false s e = omega (arith, ltb-true c 0x110000 (and-true-right (leb 0xE000 c) (ltb c 0x110000) e))
 
-symbol-below : (m character pattern : ℕ) → is_marker m character ≡ true → symbol_of m character pattern < 2 ^ 21
-unfolding is_marker symbol_of
+symbol-below : (m character pattern : ℕ) → is_marker m character ≡ true → symbol_of (marker_of m) character pattern < 2 ^ 21
+unfolding is_marker marker_of
 symbol-below m character pattern e = go (eqb m 8) refl e
   where
-    go : (t : Bool) → eqb m 8 ≡ t → cond t (is_scalar character) (leb 1 m && ltb m 8) ≡ true → symbol_of m character pattern < 2 ^ 21
-    go true s e = symbol-lt m character pattern (scalar_below character e)
-    go false s e = rw s (rw s at (symbol-lt m 0 pattern (omega arith)))
+    Low : Marker → Type 0
+    Low k = symbol_of k character pattern < 2 ^ 21
+
+    low : 0 < 2 ^ 21
+    low = omega arith
+
+    go : (t : Bool) → eqb m 8 ≡ t → cond t (is_scalar character) (leb 1 m && ltb m 8) ≡ true → symbol_of (marker_of m) character pattern < 2 ^ 21
+    go true s e = symbol-lt (marker_of m) character pattern (scalar_below character e)
+    go false s e =
+        rw s
+        (either Low (eqb m 1) (symbol-lt Braille 0 pattern low)
+        (either Low (eqb m 3) (symbol-lt Block 0 pattern low)
+        (either Low (eqb m 4) (symbol-lt Bar 0 pattern low)
+        (either Low (eqb m 5) (symbol-lt HalfBlock 0 pattern low)
+        (either Low (eqb m 6) (symbol-lt Quadrant 0 pattern low) (either Low (eqb m 7) (symbol-lt Sextant 0 pattern low) (symbol-lt Dot 0 pattern low)))))))
 
 ink-small : (dots : List Inked) → All Coloured dots → last_ink dots ≤ suc reset
 ink-small dots h = last-le (λ (d : Inked). suc d.ink) (suc reset) dots h
 
-set-small : (m character : ℕ) (dots : List Inked) → is_marker m character ≡ true → All Coloured dots → Small (set_by m character dots)
+set-small : (m character : ℕ) (dots : List Inked) → is_marker m character ≡ true → All Coloured dots → Small (set_by (marker_of m) character dots)
 unfolding set_by
 set-small m character [] e h = nothing-small
 set-small m character (d ∷ dots) e h =
     let upper = keep is_upper (d ∷ dots) in
     let lower = keep is_lower (d ∷ dots) in
-    either Small (is_half_block m)
+    either Small (is_half_block (marker_of m))
     (half-small (last_ink upper) (last_ink lower) (ink-small upper (all_keep Coloured is_upper (d ∷ dots) h)) (ink-small lower (all_keep Coloured is_lower (d ∷ dots) h))) (
-      omega (arith, symbol-below m character (pattern_of m (d ∷ dots)) e),
+      omega (arith, symbol-below m character (pattern_of (marker_of m) (d ∷ dots)) e),
       ink-small (d ∷ dots) h,
-      either (λ (n : ℕ). n ≤ suc reset) (is_block m) (ink-small (d ∷ dots) h) (omega arith),
+      either (λ (n : ℕ). n ≤ suc reset) (is_block (marker_of m)) (ink-small (d ∷ dots) h) (omega arith),
     )
 
 layer-small : (columns i : ℕ) (l : Layer) → GoodLayer l → Small (layer_at columns i l)
-layer-small columns i l h = set-small l.marker l.character (in_cell l.marker columns i l.dots) h.0 (all_keep Coloured _ l.dots h.1)
+layer-small columns i l h = set-small l.marker l.character (in_cell (marker_of l.marker) columns i l.dots) h.0 (all_keep Coloured _ l.dots h.1)
 
 picture-small : (columns : ℕ) (ls : List Layer) (i : ℕ) → All GoodLayer ls → Small (picture_of columns ls i)
 unfolding picture_of
@@ -136,9 +149,9 @@ picture-small columns ls i h = (
 abbrev pub GoodLabel : Label → Type 0
 GoodLabel l = (choice_word l.choice ≤ suc reset) × ((k : ℕ) → get_or l.text k 0 ≤ 0x7E)
 
-choice-small : (choice : Choice) → bad_choice choice ≡ false → choice_word choice ≤ suc reset
-choice-small Nothing e = omega arith
-choice-small (Colour colour) e = omega (arith, ltb-false reset colour e)
+choice-small : (choice : Option ℕ) → bad_choice choice ≡ false → choice_word choice ≤ suc reset
+choice-small None e = omega arith
+choice-small (Some colour) e = omega (arith, ltb-false reset colour e)
 
 text-small : (text : List ℕ) → bad_bytes text ≡ false → (k : ℕ) → get_or text k 0 ≤ 0x7E
 unfolding bad_bytes
@@ -201,11 +214,11 @@ pub layers-good : (l : Ledger) → GoodLedger l → All GoodLayer (layers l)
 layers-good l g = all_append GoodLayer l.before (l.last ∷ []) g.0 (g.1, tt)
 
 module _ (o : Opening) (l : Ledger) (g : GoodLedger l) where
-  inked-good : (colour : ℕ) (dots : List Dot) → bad_colour colour ≡ false → All Coloured (l.last.dots ++ inked colour dots)
+  inked-good : (colour : ℕ) (dots : List walked.Dot) → bad_colour colour ≡ false → All Coloured (l.last.dots ++ inked colour dots)
   inked-good colour dots e = all_append Coloured l.last.dots (inked colour dots) g.1.1 (all_made Coloured _ (λ d. omega (arith, ltb-false reset colour e)) dots)
 
-  abbrev dots_of : Call → List Dot
-  dots_of c = call_dots (view_of o.bounds o.columns o.rows l.last.marker) c
+  abbrev dots_of : Call → List walked.Dot
+  dots_of c = call_dots (view_of o.bounds o.columns o.rows (marker_of l.last.marker)) c
 
   pub accepted-good : (c : Call) → refusal o l.draws (length l.labels) l.last.marker c ≡ 0 → GoodLedger (accepted o l c)
   unfolding refusal

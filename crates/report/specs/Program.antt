@@ -67,6 +67,14 @@ abbrev pub terminal_in : Opening → Result → List ℕ
 terminal_in o (refused_at number place) = refusal_line number place
 terminal_in o (shown_as cells painted) = terminal o.columns o.rows (cells_by cells)
 
+-- the same for any text of the screen's cells
+abbrev pub text_in : (ℕ → ℕ → ℕ → Cells → List ℕ) → Opening → Result → List ℕ
+text_in text o (refused_at number place) = refusal_line number place
+text_in text o (shown_as cells painted) = text o.columns o.rows painted (cells_by cells)
+
+unfoldable pub printed_in : (ℕ → ℕ → ℕ → Cells → List ℕ) → List ℕ → List ℕ
+printed_in text file = text_in text (opening_of file) (result_in widest highest file)
+
 -- the program `layout`, and the program `show`
 unfoldable pub layout_prints : List ℕ → List ℕ
 layout_prints file = listing_in (opening_of file) (result_in widest highest file)

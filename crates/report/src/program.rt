@@ -1,13 +1,16 @@
 // The programs `layout` and `show` but for their reading and writing: a file's bytes in, what is printed
 // out. The limits, the stores and the screen are theirs.
-ghost use Rattle.std.specs.Prelude.{◌≡◌, ◌++◌, ◌≤◌, length, take, drop};
+ghost use Rattle.std.specs.Prelude.{◌≡◌, ℕ, ◌++◌, ◌≤◌, List, length, take, drop};
 ghost use Rattle.text.specs.Bytes.{laid};
-ghost use Rattle.report.specs.Printing.{on_blank, listing_of, terminal_of};
-ghost use Rattle.report.specs.Program.{layout_prints, show_prints};
+ghost use Rattle.text.specs.Screen.{Cells, cells_of};
+ghost use Rattle.text.specs.Listing.{listing};
+ghost use Rattle.text.specs.Terminal.{terminal};
+ghost use Rattle.report.specs.Printing.{on_blank, printed_of};
+ghost use Rattle.report.specs.Program.{printed_in, layout_prints, show_prints};
 
 use crate::screen::{blank_screen, picture_size};
-use form::fields::number16;
-use picture::run::{Drawn, draw_picture};
+use form::fields::FieldValue;
+use picture::run::draw_picture;
 use text::listing::{write_listing, write_refusal};
 use text::terminal::write_terminal;
 
@@ -23,9 +26,37 @@ const LABEL_STORE: usize = 2816;
 
 const SCREEN: usize = 5760;
 
-// The listing of a picture on a screen of its size, which is blanked first, or its refusal. Returns how
-// many bytes it has, also those past the end of out.
-fn list_on(
+// What is printed of a picture that was drawn.
+trait Output {
+    ghost text: { ℕ → ℕ → ℕ → Cells → List ℕ };
+
+    fn write(columns: u16, rows: u16, painted: u64, screen: &[u32], out: &mut [u8]) -> usize
+        ensures { (out.new ≡ laid out.old 0 (text columns rows painted (cells_of screen.now))) × (result ≡ length (text columns rows painted (cells_of screen.now))) };
+}
+
+struct Layout;
+
+impl Output for Layout {
+    ghost text = { listing };
+
+    fn write(columns: u16, rows: u16, painted: u64, screen: &[u32], out: &mut [u8]) -> usize {
+        write_listing(columns, rows, painted, screen, out)
+    }
+}
+
+struct Show;
+
+impl Output for Show {
+    ghost text = { λ columns rows painted cells. terminal columns rows cells };
+
+    fn write(columns: u16, rows: u16, _painted: u64, screen: &[u32], out: &mut [u8]) -> usize {
+        write_terminal(columns, rows, screen, out)
+    }
+}
+
+// What is printed of a picture on a screen of its size, which is blanked first, or its refusal. Returns
+// how many bytes it has, also those past the end of out.
+fn print_on<P: Output>(
     file: &[u8],
     widest: u16,
     highest: u16,
@@ -34,26 +65,44 @@ fn list_on(
     screen: &mut [u32],
     out: &mut [u8],
 ) -> usize
-    ensures { (out.new ≡ laid out.old 0 (listing_of file.now (on_blank file.now widest highest cells.old labels.old screen.old)))
-        × (result ≡ length (listing_of file.now (on_blank file.now widest highest cells.old labels.old screen.old))) }
+    ensures { (out.new ≡ laid out.old 0 (printed_of P.text file.now (on_blank file.now widest highest cells.old labels.old screen.old)))
+        × (result ≡ length (printed_of P.text file.now (on_blank file.now widest highest cells.old labels.old screen.old))) }
 {
     blank_screen(&mut *screen);
-    let drawn = draw_picture(
+    match draw_picture(
         file,
         widest,
         highest,
         &mut *cells,
         &mut *labels,
         &mut *screen,
-    );
-    match drawn {
-        Drawn::Shown(painted, _label_cells) => {
-            let columns = number16(file, 0);
-            let rows = number16(file, 2);
-            write_listing(columns, rows, painted, &*screen, &mut *out)
+    ) {
+        Ok(rendered) => {
+            let columns = u16::read(file, 0);
+            let rows = u16::read(file, 2);
+            P::write(columns, rows, rendered.painted, &*screen, &mut *out)
         }
-        Drawn::Refused(number, place) => write_refusal(number, place, &mut *out),
+        Err(fault) => write_refusal(u8::from(fault.refusal), fault.place, &mut *out),
     }
+}
+
+// The same within the programs' limits, with stores and a screen of its own.
+fn print<P: Output>(file: &[u8], out: &mut [u8]) -> usize
+    ensures { (out.new ≡ laid out.old 0 (printed_in P.text file.now)) × (result ≡ length (printed_in P.text file.now)) }
+{
+    let mut cells = [0u32; CELL_STORE];
+    let mut labels = [0u32; LABEL_STORE];
+    let mut screen = [0u32; SCREEN];
+    let n = picture_size(file, WIDEST, HIGHEST);
+    print_on::<P>(
+        file,
+        WIDEST,
+        HIGHEST,
+        &mut cells,
+        &mut labels,
+        &mut screen[..n],
+        &mut *out,
+    )
 }
 
 // What `layout` prints for a file, from the start of out; what stood past it stays. Returns how many
@@ -62,51 +111,7 @@ pub fn print_layout(file: &[u8], out: &mut [u8; 65536]) -> usize
     ensures out_after { (out.new ≡ layout_prints file.now ++ drop result out.old) × (result ≡ length (layout_prints file.now)) }
     ensures upper_bound { (result ≤ length out.new) × (result ≡ length (take result out.new)) }
 {
-    let mut cells = [0u32; CELL_STORE];
-    let mut labels = [0u32; LABEL_STORE];
-    let mut screen = [0u32; SCREEN];
-    let n = picture_size(file, WIDEST, HIGHEST);
-    list_on(
-        file,
-        WIDEST,
-        HIGHEST,
-        &mut cells,
-        &mut labels,
-        &mut screen[..n],
-        &mut *out,
-    )
-}
-
-// The same for a terminal.
-fn show_on(
-    file: &[u8],
-    widest: u16,
-    highest: u16,
-    cells: &mut [u32],
-    labels: &mut [u32],
-    screen: &mut [u32],
-    out: &mut [u8],
-) -> usize
-    ensures { (out.new ≡ laid out.old 0 (terminal_of file.now (on_blank file.now widest highest cells.old labels.old screen.old)))
-        × (result ≡ length (terminal_of file.now (on_blank file.now widest highest cells.old labels.old screen.old))) }
-{
-    blank_screen(&mut *screen);
-    let drawn = draw_picture(
-        file,
-        widest,
-        highest,
-        &mut *cells,
-        &mut *labels,
-        &mut *screen,
-    );
-    match drawn {
-        Drawn::Shown(_painted, _label_cells) => {
-            let columns = number16(file, 0);
-            let rows = number16(file, 2);
-            write_terminal(columns, rows, &*screen, &mut *out)
-        }
-        Drawn::Refused(number, place) => write_refusal(number, place, &mut *out),
-    }
+    print::<Layout>(file, &mut out[..])
 }
 
 // What `show` prints, in the same way.
@@ -114,17 +119,5 @@ pub fn print_show(file: &[u8], out: &mut [u8; 81920]) -> usize
     ensures out_after { (out.new ≡ show_prints file.now ++ drop result out.old) × (result ≡ length (show_prints file.now)) }
     ensures upper_bound { (result ≤ length out.new) × (result ≡ length (take result out.new)) }
 {
-    let mut cells = [0u32; CELL_STORE];
-    let mut labels = [0u32; LABEL_STORE];
-    let mut screen = [0u32; SCREEN];
-    let n = picture_size(file, WIDEST, HIGHEST);
-    show_on(
-        file,
-        WIDEST,
-        HIGHEST,
-        &mut cells,
-        &mut labels,
-        &mut screen[..n],
-        &mut *out,
-    )
+    print::<Show>(file, &mut out[..])
 }

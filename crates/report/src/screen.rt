@@ -2,20 +2,17 @@
 ghost use Rattle.std.specs.Prelude.{◌≡◌};
 ghost use Rattle.report.specs.Screen.{blank_screen, picture_size};
 
-use form::fields::number16;
+use form::fields::FieldValue;
 
 // Every whole cell becomes blank; the words left over stay as they are.
 pub fn blank_screen(screen: &mut [u32])
     ensures { screen.new ≡ blank_screen screen.old }
 {
-    let n = screen.len() / 3;
-    let mut k = 0;
-    while k < n {
+    for k in 0..screen.len() / 3 {
         let i = k * 3;
         screen[i] = 0x20;
         screen[i + 1] = 16777216;
         screen[i + 2] = 16777216;
-        k += 1;
     }
 }
 
@@ -24,10 +21,10 @@ pub fn blank_screen(screen: &mut [u32])
 pub fn picture_size(file: &[u8], widest: u16, highest: u16) -> usize
     ensures { result ≡ picture_size file.now widest highest }
 {
-    let columns = number16(file, 0);
-    let rows = number16(file, 2);
+    let columns = u16::read(file, 0);
+    let rows = u16::read(file, 2);
     if (columns > widest) | (rows > highest) {
         return 0;
     }
-    (columns as usize) * (rows as usize) * 3
+    usize::from(columns) * usize::from(rows) * 3
 }

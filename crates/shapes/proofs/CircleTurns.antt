@@ -6,6 +6,7 @@ use mathlib.Core.List.{List, [], ◌∷◌}
 use native.Mathlib.Omega.{arith}
 use lib.Ieee.{Float}
 use lib.ListN.{length, get_or}
+use Rattle.std.specs.Prelude.{Option, Some, None}
 use Rattle.floats.specs.Polyfills.{mul_add_of}
 use Rattle.angles.specs.Angles.{cos_at, sin_at, angle_table}
 use Rattle.angles.proofs.AnglePlaces.{angle-cos, angle-sin}
@@ -13,14 +14,11 @@ use Rattle.angles.proofs.AngleSizes.{cos-sized, sin-sized}
 use Rattle.walk.specs.declared.bresenham.Dot.{Dot}
 use Rattle.grids.specs.Painting.{cells_held, braille_dot}
 use Rattle.view.specs.Point.{inside_bounds, point_of, frame_of, regular_view}
-use Rattle.view.specs.declared.point.Found.{Found}
-use Rattle.view.specs.declared.point.Found.TheVariants.{At, Nowhere}
 use Rattle.view.proofs.DotPlaces.{spot-point}
 use Rattle.shapes.specs.Shapes.{point_dots, angles}
-use Rattle.lines.specs.Painted.{painted_by}
+use Rattle.lines.specs.Painted.{Painted, painted_by}
 use Rattle.shapes.specs.Drawing.{RegularBraille, CircleInDomain}
 use Rattle.lines.specs.declared.painter.Painter.{Painter}
-use Rattle.lines.proofs.PaintedDots.{Painted}
 use Rattle.lines.proofs.CourseLoops.{braille-dot}
 use Rattle.shapes.proofs.PaintLists.{angle-next, table-cos, table-sin}
 use Rattle.shapes.proofs.InsideOrOutside.{point-number, not-inside-nowhere}
@@ -35,7 +33,7 @@ module _ (p : Painter) (x y radius : Float) (k : ℕ) (t : List Float) (e u w : 
   pub turn_inside : inside_bounds p.view.bounds (mul_add_of radius (cos_at k) x) (mul_add_of radius (sin_at k) y) ≡ true → inside_bounds p.view.bounds u w ≡ true
   turn_inside h = rw (f, g, a, angle-cos k e l, angle-sin k e l) h
 
-  turn-nowhere : CircleInDomain x y radius → regular_view p.view ≡ true → inside_bounds p.view.bounds u w ≡ false → point_of p.view u w ≡ Nowhere
+  turn-nowhere : CircleInDomain x y radius → regular_view p.view ≡ true → inside_bounds p.view.bounds u w ≡ false → point_of p.view u w ≡ None
   turn-nowhere c r h =
       not-inside-nowhere p.view u w r
       (rw (f, a, angle-cos k e l) (point-number radius (cos_at k) x c.1.1 (cos-sized k l) c.0))
@@ -43,16 +41,16 @@ module _ (p : Painter) (x y radius : Float) (k : ℕ) (t : List Float) (e u w : 
       h
 
   module _ (before between after : List ℕ) (m n : ℕ) (h : Painted p before (angles p.view x y radius k) m between) where
-    found : (o : Found) (i : ℕ) → point_of p.view u w ≡ o → Painted p between (point_dots o) i after → Painted p before (angles p.view x y radius (k + 1)) (m + i) after
+    found : (o : Option (ℕ × ℕ)) (i : ℕ) → point_of p.view u w ≡ o → Painted p between (point_dots o) i after → Painted p before (angles p.view x y radius (k + 1)) (m + i) after
     found o i q r =
         angle-next p x y radius before between after k m i (frame_of p.view) u w o (table-cos k t e radius x u a l f) (table-sin k t e radius y w a l g) refl (sym (spot-point p.view u w ∙ q)) h r
 
-    pub turn-dot : (d : Dot) → n ≡ m + 1 → point_of p.view u w ≡ At d.column d.row → after ≡ painted_by p between (d ∷ []) → Painted p before (angles p.view x y radius (k + 1)) n after
-    turn-dot d c q r = rw c (found (At d.column d.row) 1 q (refl, r))
+    pub turn-dot : (d : Dot) → n ≡ m + 1 → point_of p.view u w ≡ Some (d.column, d.row) → after ≡ painted_by p between (d ∷ []) → Painted p before (angles p.view x y radius (k + 1)) n after
+    turn-dot d c q r = rw c (found (Some (d.column, d.row)) 1 q (refl, r))
 
     pub turn-none : CircleInDomain x y radius → regular_view p.view ≡ true → inside_bounds p.view.bounds u w ≡ false → n ≡ m → after ≡ between
         → Painted p before (angles p.view x y radius (k + 1)) n after
-    turn-none domain regular q c r = rw (c ∙ none m) (found Nowhere 0 (turn-nowhere domain regular q) (refl, r))
+    turn-none domain regular q c r = rw (c ∙ none m) (found None 0 (turn-nowhere domain regular q) (refl, r))
       where
         none : (j : ℕ) → j ≡ j + 0
         none j = omega arith

@@ -6,15 +6,14 @@ use mathlib.Core.List.{List, [], ◌∷◌, ◌++◌}
 use Prim.Native.Nat.{ℕ, zero, suc, ◌+◌, ◌-◌, ◌*◌, ◌≤◌, ◌<◌, max, min, zero-le}
 use native.Mathlib.Nat.{mul-le-mul, mul-le-mul_right, le_trans, le_of_eq}
 use native.Mathlib.Omega.{arith}
-use lib.Dec.{eqb, lit≤}
+use lib.Dec.{lit≤}
 use lib.Ieee.{Float}
 use lib.ListN.{length, length-append}
+use Rattle.std.specs.Prelude.{Option, Some, None}
 use Rattle.floats.specs.Arithmetic.{◌⊕◌}
 use Rattle.floats.specs.Methods.{clamp_of}
 use Rattle.walk.specs.declared.clip.Bounds.{Bounds}
 use Rattle.walk.specs.declared.clip.Segment.{Segment}
-use Rattle.walk.specs.declared.clip.Clipped.{Clipped}
-use Rattle.walk.specs.declared.clip.Clipped.TheVariants as clipped
 use Rattle.walk.specs.declared.bresenham.Ends.{Ends}
 use Rattle.walk.specs.declared.bresenham.Dot.{Dot}
 use Rattle.walk.specs.Clip.{clip_of}
@@ -22,8 +21,9 @@ use Rattle.walk.specs.Tabulate.{tabulate}
 use Rattle.walk.specs.Line.{apart, dx, dy, from_start, dot_after, dot_count, line_dots}
 use Rattle.walk.proofs.Tabulated.{length-tabulate}
 use Rattle.walk.proofs.LineDots.{length-line, Within, dot-within}
-use Rattle.grids.specs.Markers.{dot_size, dot_columns, dot_rows, by}
-use Rattle.grids.specs.declared.markers.Size.{Size}
+use Rattle.grids.specs.Markers.{dot_columns, dot_rows}
+use Rattle.grids.specs.declared.markers.Marker.{Marker}
+use Rattle.grids.proofs.DotSizes.{dot-size-le}
 use Rattle.view.specs.Limits.{max_columns, max_rows, max_painted}
 use Rattle.view.specs.Point.{outside_bounds, flat_bounds, scaled_of, point_of, view_of}
 use Rattle.lines.specs.Painted.{flat, column_to}
@@ -31,8 +31,6 @@ use Rattle.shapes.specs.Shapes.{point_dots, dots_between, clipped_line, line_poi
 use Rattle.shapes.specs.Drawing.{shape_dots}
 use Rattle.shapes.specs.declared.painters.Pair.{Pair}
 use Rattle.view.specs.declared.point.View.{View}
-use Rattle.view.specs.declared.point.Found.{Found}
-use Rattle.view.specs.declared.point.Found.TheVariants.{At, Nowhere}
 use Rattle.shapes.specs.declared.painters.Shape.{Shape}
 use Rattle.shapes.specs.declared.painters.Shape.TheVariants as shapes
 
@@ -42,7 +40,7 @@ use Rattle.shapes.specs.declared.painters.Shape.TheVariants as shapes
 abbrev ends : ℕ → ℕ → ℕ → ℕ → Ends
 ends x1 y1 x2 y2 = record { x1 = x1; y1 = y1; x2 = x2; y2 = y2 }
 
-pub line-painted : (x1 y1 x2 y2 : ℕ) → length (dots_between (At x1 y1) (At x2 y2)) ≡ max (apart x1 x2) (apart y1 y2) + 1
+pub line-painted : (x1 y1 x2 y2 : ℕ) → length (dots_between (Some (x1, y1)) (Some (x2, y2))) ≡ max (apart x1 x2) (apart y1 y2) + 1
 line-painted x1 y1 x2 y2 = length-line (ends x1 y1 x2 y2)
 
 -- the sum of f over a list
@@ -62,7 +60,7 @@ total-same f g (x ∷ xs) h = rw (h x, total-same f g xs h)
 abbrev column_count : ℕ → Dot → ℕ
 column_count fill_row d = apart d.row fill_row + 1
 
-pub filled-painted : (e : Ends) (column fill_row : ℕ) → length (filled_dots e (At column fill_row)) ≡ total (λ d. apart d.row fill_row + 1) (line_dots e)
+pub filled-painted : (e : Ends) (column fill_row : ℕ) → length (filled_dots e (Some (column, fill_row))) ≡ total (λ d. apart d.row fill_row + 1) (line_dots e)
 filled-painted e column fill_row =
     length-flat (column_to fill_row) (line_dots e)
     ∙ total-same (λ d. length (column_to fill_row d)) (column_count fill_row) (line_dots e) (λ d. length-tabulate (apart d.row fill_row + 1) _)
@@ -83,15 +81,15 @@ scaled-inside distance dots width = lower _ (dots - 1)
     lower : (a b : ℕ) → min a b ≤ b
     lower a b = omega arith
 
-abbrev Inside : View → Found → Type 0
-Inside v (At c r) = (c ≤ v.width - 1) × (r ≤ v.height - 1)
-Inside v Nowhere = Unit {0}
+abbrev Inside : View → Option (ℕ × ℕ) → Type 0
+Inside v (Some (c, r)) = (c ≤ v.width - 1) × (r ≤ v.height - 1)
+Inside v None = Unit {0}
 
 found_inside : (v : View) (x y : Float) → Inside v (point_of v x y)
 unfolding point_of
 found_inside v x y = go (outside_bounds v.bounds x y || flat_bounds v.bounds) _ _ (scaled-inside _ v.width _) (scaled-inside _ v.height _)
   where
-    go : (t : Bool) (c r : ℕ) → c ≤ v.width - 1 → r ≤ v.height - 1 → Inside v (cond t Nowhere (At c r))
+    go : (t : Bool) (c r : ℕ) → c ≤ v.width - 1 → r ≤ v.height - 1 → Inside v (cond t None (Some (c, r)))
     go true c r h k = tt
     go false c r h k = (h, k)
 
@@ -107,24 +105,24 @@ upright v = v.height - 1 + 1
 apart-le : (a b n : ℕ) → a ≤ n → b ≤ n → apart a b ≤ n
 apart-le a b n h k = omega arith
 
-walk-count : (v : View) (x1 y1 x2 y2 : ℕ) → Inside v (At x1 y1) → Inside v (At x2 y2) → dot_count (ends x1 y1 x2 y2) ≤ side v
+walk-count : (v : View) (x1 y1 x2 y2 : ℕ) → Inside v (Some (x1, y1)) → Inside v (Some (x2, y2)) → dot_count (ends x1 y1 x2 y2) ≤ side v
 walk-count v x1 y1 x2 y2 i j = larger _ _ (v.width - 1) (v.height - 1) (apart-le x1 x2 (v.width - 1) i.0 j.0) (apart-le y1 y2 (v.height - 1) i.1 j.1)
   where
     larger : (a b w h : ℕ) → a ≤ w → b ≤ h → max a b + 1 ≤ max w h + 1
     larger a b w h p q = omega arith
 
-line-between : (v : View) (p q : Found) → Inside v p → Inside v q → length (dots_between p q) ≤ side v
-line-between v Nowhere q i j = zero-le
-line-between v (At x1 y1) Nowhere i j = zero-le
-line-between v (At x1 y1) (At x2 y2) i j = rw (line-painted x1 y1 x2 y2) (walk-count v x1 y1 x2 y2 i j)
+line-between : (v : View) (p q : Option (ℕ × ℕ)) → Inside v p → Inside v q → length (dots_between p q) ≤ side v
+line-between v None q i j = zero-le
+line-between v (Some (x1, y1)) None i j = zero-le
+line-between v (Some (x1, y1)) (Some (x2, y2)) i j = rw (line-painted x1 y1 x2 y2) (walk-count v x1 y1 x2 y2 i j)
 
 line-side : (v : View) (s : Segment) → length (line_points v s) ≤ side v
 unfolding line_points
-line-side v s = go (clip_of v.bounds s)
+line-side v s = go (clip_of v.bounds s).line
   where
-    go : (c : Clipped) → length (clipped_line v c) ≤ side v
-    go (clipped.Line t n) = line-between v (point_of v t.x1 t.y1) (point_of v t.x2 t.y2) (found_inside v t.x1 t.y1) (found_inside v t.x2 t.y2)
-    go (clipped.NoLine n) = zero-le
+    go : (k : Option Segment) → length (clipped_line v k) ≤ side v
+    go (Some t) = line-between v (point_of v t.x1 t.y1) (point_of v t.x2 t.y2) (found_inside v t.x1 t.y1) (found_inside v t.x2 t.y2)
+    go None = zero-le
 
 total-append : {A : Type 0} (f : A → ℕ) (xs ys : List A) → total f (xs ++ ys) ≡ total f xs + total f ys
 total-append f [] ys = omega arith
@@ -135,12 +133,12 @@ total_at_most : {A : Type 0} (f : A → ℕ) (n b : ℕ) (g : ℕ → A) → ((k
 total_at_most f zero b g h = zero-le
 total_at_most f (suc n) b g h = rw (total-append f (tabulate n g) (g n ∷ [])) (omega (arith, h n (omega arith), total_at_most f n b g (λ k l. h k (omega arith))))
 
-filled-between : (v : View) (p q fill : Found) → Inside v p → Inside v q → Inside v fill → length (filled_between p q fill) ≤ side v * upright v
+filled-between : (v : View) (p q fill : Option (ℕ × ℕ)) → Inside v p → Inside v q → Inside v fill → length (filled_between p q fill) ≤ side v * upright v
 unfolding line_dots
-filled-between v Nowhere q fill i j f = zero-le
-filled-between v (At x1 y1) Nowhere fill i j f = zero-le
-filled-between v (At x1 y1) (At x2 y2) Nowhere i j f = zero-le
-filled-between v (At x1 y1) (At x2 y2) (At column fill_row) i j f =
+filled-between v None q fill i j f = zero-le
+filled-between v (Some (x1, y1)) None fill i j f = zero-le
+filled-between v (Some (x1, y1)) (Some (x2, y2)) None i j f = zero-le
+filled-between v (Some (x1, y1)) (Some (x2, y2)) (Some (column, fill_row)) i j f =
     rw (filled-painted e column fill_row)
     (le_trans (total_at_most (column_count fill_row) (dot_count e) (upright v) (dot_after (from_start e)) short) (mul-le-mul_right (upright v) (walk-count v x1 y1 x2 y2 i j)))
   where
@@ -163,13 +161,13 @@ filled-between v (At x1 y1) (At x2 y2) (At column fill_row) i j f =
 
 filled-side : (v : View) (s : Segment) (fill_to : Float) → length (filled_points v s fill_to) ≤ side v * upright v
 unfolding filled_points
-filled-side v s fill_to = go (clip_of v.bounds s)
+filled-side v s fill_to = go (clip_of v.bounds s).line
   where
-    go : (c : Clipped) → length (clipped_fill v fill_to c) ≤ side v * upright v
-    go (clipped.Line t n) =
+    go : (k : Option Segment) → length (clipped_fill v fill_to k) ≤ side v * upright v
+    go (Some t) =
         let y = clamp_of fill_to v.bounds.bottom v.bounds.top in
         filled-between v (point_of v t.x1 t.y1) (point_of v t.x2 t.y2) (point_of v t.x1 y) (found_inside v t.x1 t.y1) (found_inside v t.x2 t.y2) (found_inside v t.x1 y)
-    go (clipped.NoLine n) = zero-le
+    go None = zero-le
 
 side-larger : (v : View) → 0 < v.width → 0 < v.height → side v ≡ max v.width v.height
 side-larger v w h = larger v.width v.height w h
@@ -203,9 +201,9 @@ rectangle-side v x y width height =
 pub rectangle-count : (v : View) (x y width height : Float) → 0 < v.width → 0 < v.height → length (rectangle_points v x y width height) ≤ 4 * max v.width v.height
 rectangle-count v x y width height w h = rw (sym (side-larger v w h)) (rectangle-side v x y width height)
 
-one-dot : (p : Found) → length (point_dots p) ≤ 1
-one-dot Nowhere = omega arith
-one-dot (At c r) = omega arith
+one-dot : (p : Option (ℕ × ℕ)) → length (point_dots p) ≤ 1
+one-dot None = omega arith
+one-dot (Some (c, r)) = omega arith
 
 pub circle-count : (v : View) (x y radius : Float) → length (circle_points v x y radius) ≤ 360
 unfolding circle_points
@@ -239,20 +237,9 @@ shape-few v (shapes.FilledLine s fill_to) m = le_trans (filled-side v s fill_to)
 shape-few v (shapes.Rectangle x y width height) m = le_trans (rectangle-side v x y width height) (omega (arith, m.side-small))
 shape-few v (shapes.Circle x y radius) m = le_trans (circle-count v x y radius) (lit≤ tt)
 
-size_small : (m : ℕ) → (dot_columns m ≤ 2) × (dot_rows m ≤ 4)
-unfolding dot_size
-size_small m = go (eqb m 1) (eqb m 5) (eqb m 6) (eqb m 7)
-  where
-    go : (a b c d : Bool) → let s : Size = cond a (by 2 4) (cond b (by 1 2) (cond c (by 2 2) (cond d (by 2 3) (by 1 1)))) in (s.columns ≤ 2) × (s.rows ≤ 4)
-    go true b c d = (lit≤ tt, lit≤ tt)
-    go false true c d = (lit≤ tt, lit≤ tt)
-    go false false true d = (lit≤ tt, lit≤ tt)
-    go false false false true = (lit≤ tt, lit≤ tt)
-    go false false false false = (lit≤ tt, lit≤ tt)
-
-pub view-small : (bounds : Bounds) (columns rows m : ℕ) → columns ≤ max_columns → rows ≤ max_rows → Small (view_of bounds columns rows m)
+pub view-small : (bounds : Bounds) (columns rows : ℕ) (m : Marker) → columns ≤ max_columns → rows ≤ max_rows → Small (view_of bounds columns rows m)
 view-small bounds columns rows m h k =
-    let s = size_small m in
+    let s = dot-size-le m in
     sides (columns * dot_columns m) (rows * dot_rows m) (mul-le-mul h s.0) (mul-le-mul k s.1)
   where
     sides : (w l : ℕ) → w ≤ 400 → l ≤ 400 → Small (record { bounds = bounds; width = w; height = l })

@@ -2,6 +2,7 @@
 use mathlib.Core.Path.{◌≡◌, refl, sym, ◌∙◌}
 use mathlib.Core.Bool.{Bool, true, false, ◌||◌}
 use lib.Ieee.{Float, nan, inf, fin, lt}
+use Rattle.std.specs.Prelude.{None}
 use Rattle.floats.specs.Arithmetic.{◌⊗◌}
 use Rattle.floats.specs.Rounding.{Finite}
 use Rattle.floats.specs.Domain.{in_domain}
@@ -13,7 +14,6 @@ use Rattle.walk.specs.declared.clip.Bounds.{Bounds}
 use Rattle.view.specs.Point.{outside_bounds, inside_bounds, point_of, regular_view}
 use Rattle.view.proofs.RegularView.{regular}
 use Rattle.view.specs.declared.point.View.{View}
-use Rattle.view.specs.declared.point.Found.TheVariants.{Nowhere}
 
 -- ---- a point of a circle
 at-most-one-finite : (c : Float) → at_most_one c ≡ true → Finite c
@@ -54,10 +54,10 @@ regular-bounds v h =
     )
 
 -- a number that is not inside its bounds has no dot
-pub not-inside-nowhere : (v : View) (x y : Float) → regular_view v ≡ true → IsNumber x → IsNumber y → inside_bounds v.bounds x y ≡ false → point_of v x y ≡ Nowhere
+pub not-inside-nowhere : (v : View) (x y : Float) → regular_view v ≡ true → IsNumber x → IsNumber y → inside_bounds v.bounds x y ≡ false → point_of v x y ≡ None
 unfolding point_of
 not-inside-nowhere v x y g X Y h = go (outside_bounds v.bounds x y) refl
   where
-    go : (t : Bool) → outside_bounds v.bounds x y ≡ t → point_of v x y ≡ Nowhere
+    go : (t : Bool) → outside_bounds v.bounds x y ≡ t → point_of v x y ≡ None
     go true e = rw e
     go false e = true-not-false (sym (not-outside-inside v.bounds x y (regular-bounds v g) X Y e) ∙ h)

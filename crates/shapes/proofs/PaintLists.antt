@@ -7,27 +7,27 @@ use native.Mathlib.Omega.{arith}
 use lib.Ieee.{Float}
 use lib.ListN.{length, take, get_or}
 use lib.Seq.{take-suc}
+use Rattle.std.specs.Prelude.{Option, Some, None}
 use Rattle.floats.specs.Polyfills.{mul_add_of}
 use Rattle.angles.specs.Angles.{cos_at, sin_at, angle_table}
 use Rattle.angles.proofs.AnglePlaces.{angle-cos, angle-sin}
 use Rattle.view.specs.Point.{point_of, frame_of, spot_of}
 use Rattle.view.specs.declared.point.View.{View}
 use Rattle.view.specs.declared.point.Frame.{Frame}
-use Rattle.view.specs.declared.point.Found.{Found}
-use Rattle.view.specs.declared.point.Found.TheVariants.{At, Nowhere}
 use Rattle.view.proofs.DotPlaces.{spot-point}
 use Rattle.lines.specs.declared.painter.Painter.{Painter}
-use Rattle.lines.proofs.PaintedDots.{Painted, painted-then, flat_append}
+use Rattle.lines.proofs.PaintedDots.{painted-then, flat_append}
+use Rattle.lines.specs.Painted.{Painted}
 use Rattle.shapes.specs.Shapes.{point_dots, angle_point, angles, circle_points, pair_dots}
 use Rattle.shapes.specs.declared.painters.Pair.{Pair}
 
 -- ---- points
-pub point-le : (f : Found) (n : ℕ) → n ≡ length (point_dots f) → n ≤ 1
-point-le (At column row) n e = omega arith
-point-le Nowhere n e = omega arith
+pub point-le : (f : Option (ℕ × ℕ)) (n : ℕ) → n ≡ length (point_dots f) → n ≤ 1
+point-le (Some (column, row)) n e = omega arith
+point-le None n e = omega arith
 
 -- one more point of a circle, by its angle's cosine and sine, and by the table of these
-pub angle-next : (p : Painter) (x y radius : Float) (before between after : List ℕ) (k m n : ℕ) (frame : Frame) (u v : Float) (f : Found)
+pub angle-next : (p : Painter) (x y radius : Float) (before between after : List ℕ) (k m n : ℕ) (frame : Frame) (u v : Float) (f : Option (ℕ × ℕ))
     → u ≡ mul_add_of radius (cos_at k) x → v ≡ mul_add_of radius (sin_at k) y → frame ≡ frame_of p.view → f ≡ spot_of frame u v
     → Painted p before (angles p.view x y radius k) m between → Painted p between (point_dots f) n after
     → Painted p before (angles p.view x y radius (k + 1)) (m + n) after

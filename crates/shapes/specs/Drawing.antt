@@ -2,6 +2,7 @@
 use Rattle.std.specs.Prelude.{◌≡◌, true, List, Float}
 use Rattle.floats.specs.Domain.{in_domain}
 use Rattle.walk.specs.declared.bresenham.Dot.{Dot}
+use Rattle.grids.specs.declared.markers.Marker.TheVariants.{Braille}
 use Rattle.view.specs.Point.{regular_view}
 use Rattle.lines.specs.declared.painter.Painter.{Painter}
 use Rattle.shapes.specs.Shapes.{line_points, filled_points, rectangle_points, circle_points}
@@ -17,7 +18,7 @@ shape_dots v (Circle x y radius) = circle_points v x y radius
 
 -- a Braille grid with a view on which no clamp acts
 abbrev pub RegularBraille : Painter → Type 0
-RegularBraille p = (p.marker ≡ 1) × (regular_view p.view ≡ true)
+RegularBraille p = (p.marker ≡ Braille) × (regular_view p.view ≡ true)
 
 -- a circle's centre and radius in the domain: its points are then no NaN, so that each is inside the bounds or outside them
 abbrev pub CircleInDomain : Float → Float → Float → Type 0

@@ -1,26 +1,29 @@
 // The shapes, painted dot by dot in the order of the Rust. Each function paints the dots of a
-// definition in specs/ and gives their number.
-ghost use Rattle.std.specs.Prelude.{◌≡◌, true, ℕ, ◌<◌, length};
+// definition in specs/ and gives their number. They are no methods of Painter, since those can stand
+// only in its own crate.
+ghost use Rattle.std.specs.Prelude.{◌≡◌, true, false, ℕ, ◌<◌};
 ghost use Rattle.floats.specs.Polyfills.{mul_add_of};
 ghost use Rattle.angles.specs.Angles.{cos_at, sin_at};
 ghost use Rattle.view.specs.Point.{inside_bounds, point_of};
-ghost use Rattle.lines.specs.Painted.{painted_by};
-ghost use Rattle.shapes.specs.Shapes.{point_dots, line_points, filled_points, rectangle_points, circle_points};
+ghost use Rattle.lines.specs.Painted.{Painted};
+ghost use Rattle.shapes.specs.Shapes.{point_dots, line_ends, line_points, filled_points, segment, rectangle_points, circle_points};
 ghost use Rattle.shapes.specs.Drawing.{shape_dots, RegularBraille, CircleInDomain};
 
 use angles::angle_table;
 use floats::domain::in_domain;
 use floats::methods::{clamp, to_radians};
 use floats::polyfills::{cos, mul_add, sin};
+use grids::markers::Marker;
 use grids::painting::{cells_held, paint_braille};
 use lines::fills::paint_fill;
 use lines::painter::{Painter, paint_dot};
 use lines::walks::paint_walk;
-use view::point::{Found, dot_inside, frame_of, is_inside, is_regular, spot, spot_inside};
+use view::point::{View, dot_inside, frame_of, is_inside, is_regular, spot, spot_inside};
 use walk::bresenham::Ends;
-use walk::clip::{Bounds, Clipped, Segment, clip_line};
+use walk::clip::{Bounds, Segment, clip_line};
 
-// A shape with its floats. The pairs of a Points stand beside it.
+// A shape with its floats, unnamed since callers take and pass them in the order of the Rust. The pairs
+// of a Points stand beside it.
 #[derive(Clone, Copy)]
 pub enum Shape {
     Line(Segment),
@@ -37,71 +40,79 @@ pub struct Pair {
 }
 
 // A dot, or none.
-pub fn paint_found(cells: &mut [u32], p: Painter, found: Found) -> u64
-    ensures { (result ≡ length (point_dots found)) × (cells.new ≡ painted_by p cells.old (point_dots found)) }
+pub fn paint_found(cells: &mut [u32], p: Painter, found: Option<(u16, u16)>) -> u64
+    ensures { Painted p cells.old (point_dots found) result cells.new }
 {
-    let Found::At(column, row) = found else {
+    let Some((column, row)) = found else {
         return 0;
     };
-    paint_dot(&mut *cells, p, column as u32, row as u32);
+    paint_dot(cells, p, u32::from(column), u32::from(row));
     1
 }
 
 // The dot of a point, or none.
 pub fn paint_point(cells: &mut [u32], p: Painter, x: f64, y: f64) -> u64
-    ensures { (result ≡ length (point_dots (point_of p.view x y))) × (cells.new ≡ painted_by p cells.old (point_dots (point_of p.view x y))) }
+    ensures { Painted p cells.old (point_dots (point_of p.view x y)) result cells.new }
 {
     let frame = frame_of(p.view);
     let found = spot(frame, x, y);
-    paint_found(&mut *cells, p, found)
+    paint_found(cells, p, found)
+}
+
+// What is left of a line after the clipping: its first end's x, and the dots of its ends. None where
+// nothing is left, or an end has no dot. By `let .. else` and not `?`, the form that document 01 names.
+fn line_ends(v: View, s: Segment) -> Option<(f64, Ends)>
+    ensures { result ≡ line_ends v s }
+{
+    let clipped = clip_line(v.bounds, s);
+    let Some(kept) = clipped.line else {
+        return None;
+    };
+    let f = frame_of(v);
+    let first = spot_inside(f, kept.x1, kept.y1);
+    let Some((x1, y1)) = first else {
+        return None;
+    };
+    let second = spot_inside(f, kept.x2, kept.y2);
+    let Some((x2, y2)) = second else {
+        return None;
+    };
+    Some((kept.x1, Ends { x1, y1, x2, y2 }))
 }
 
 // A line: clipped, and walked between the dots of its ends.
 pub fn paint_line(cells: &mut [u32], p: Painter, s: Segment) -> u64
-    ensures { (result ≡ length (line_points p.view s)) × (cells.new ≡ painted_by p cells.old (line_points p.view s)) }
+    ensures { Painted p cells.old (line_points p.view s) result cells.new }
 {
-    let v = p.view;
-    let clipped = clip_line(v.bounds, s);
-    let Clipped::Line(kept, _) = clipped else {
+    let found = line_ends(p.view, s);
+    let Some((_, ends)) = found else {
         return 0;
     };
-    let f = frame_of(v);
-    let first = spot_inside(f, kept.x1, kept.y1);
-    let Found::At(x1, y1) = first else {
-        return 0;
-    };
-    let second = spot_inside(f, kept.x2, kept.y2);
-    let Found::At(x2, y2) = second else {
-        return 0;
-    };
-    paint_walk(&mut *cells, p, Ends { x1, y1, x2, y2 })
+    paint_walk(cells, p, ends)
 }
 
 // A filled line: its walk, filled to the dot row of `fill_to_y` clamped to the bounds.
 pub fn paint_filled_line(cells: &mut [u32], p: Painter, s: Segment, fill_to_y: f64) -> u64
-    ensures { (result ≡ length (filled_points p.view s fill_to_y)) × (cells.new ≡ painted_by p cells.old (filled_points p.view s fill_to_y)) }
+    ensures { Painted p cells.old (filled_points p.view s fill_to_y) result cells.new }
 {
     let v = p.view;
-    let b = v.bounds;
-    let clipped = clip_line(b, s);
-    let Clipped::Line(c, _) = clipped else {
+    let found = line_ends(v, s);
+    let Some((x, ends)) = found else {
         return 0;
     };
+    let y_fill = clamp(fill_to_y, v.bounds.bottom, v.bounds.top);
     let f = frame_of(v);
-    let first = spot_inside(f, c.x1, c.y1);
-    let Found::At(x1, y1) = first else {
+    let third = spot(f, x, y_fill);
+    let Some((_, fill)) = third else {
         return 0;
     };
-    let second = spot_inside(f, c.x2, c.y2);
-    let Found::At(x2, y2) = second else {
-        return 0;
-    };
-    let y_fill = clamp(fill_to_y, b.bottom, b.top);
-    let third = spot(f, c.x1, y_fill);
-    let Found::At(_, fill) = third else {
-        return 0;
-    };
-    paint_fill(&mut *cells, p, Ends { x1, y1, x2, y2 }, fill)
+    paint_fill(cells, p, ends, fill)
+}
+
+fn segment(x1: f64, y1: f64, x2: f64, y2: f64) -> Segment
+    ensures { result ≡ segment x1 y1 x2 y2 }
+{
+    Segment { x1, y1, x2, y2 }
 }
 
 // A rectangle: four lines, in the order of the Rust.
@@ -113,50 +124,14 @@ pub fn paint_rectangle(
     width: f64,
     height: f64,
 ) -> u64
-    ensures { (result ≡ length (rectangle_points p.view x y width height)) × (cells.new ≡ painted_by p cells.old (rectangle_points p.view x y width height)) }
+    ensures { Painted p cells.old (rectangle_points p.view x y width height) result cells.new }
 {
     let right = x + width;
     let top = y + height;
-    let a = paint_line(
-        &mut *cells,
-        p,
-        Segment {
-            x1: x,
-            y1: y,
-            x2: x,
-            y2: top,
-        },
-    );
-    let b = paint_line(
-        &mut *cells,
-        p,
-        Segment {
-            x1: x,
-            y1: top,
-            x2: right,
-            y2: top,
-        },
-    );
-    let c = paint_line(
-        &mut *cells,
-        p,
-        Segment {
-            x1: right,
-            y1: y,
-            x2: right,
-            y2: top,
-        },
-    );
-    let d = paint_line(
-        &mut *cells,
-        p,
-        Segment {
-            x1: x,
-            y1: y,
-            x2: right,
-            y2: y,
-        },
-    );
+    let a = paint_line(cells, p, segment(x, y, x, top));
+    let b = paint_line(cells, p, segment(x, top, right, top));
+    let c = paint_line(cells, p, segment(right, y, right, top));
+    let d = paint_line(cells, p, segment(x, y, right, y));
     a + b + c + d
 }
 
@@ -175,46 +150,32 @@ fn is_circle_inside(b: Bounds, x: f64, y: f64, radius: f64) -> bool
         & ((bottom >= b.bottom) & (top <= b.top))
 }
 
-// A circle every point of which is inside, on a Braille grid: 360 dots, of which no point is tested.
-fn circle_inside(cells: &mut [u32], p: Painter, x: f64, y: f64, radius: f64) -> u64
-    requires { RegularBraille p × ((angle : ℕ) → angle < 360 → inside_bounds p.view.bounds (mul_add_of radius (cos_at angle) x) (mul_add_of radius (sin_at angle) y) ≡ true) }
-    ensures { (result ≡ length (circle_points p.view x y radius)) × (cells.new ≡ painted_by p cells.old (circle_points p.view x y radius)) }
+// A circle on a Braille grid: 360 points, of which each is tested, or none where all are inside. By a
+// turn's number, since the table is one row, each turn's cosine and then its sine.
+fn circle_braille<const TESTED: bool>(
+    cells: &mut [u32],
+    p: Painter,
+    x: f64,
+    y: f64,
+    radius: f64,
+) -> u64
+    requires known { RegularBraille p × CircleInDomain x y radius }
+    requires inside { TESTED ≡ false → (angle : ℕ) → angle < 360 → inside_bounds p.view.bounds (mul_add_of radius (cos_at angle) x) (mul_add_of radius (sin_at angle) y) ≡ true }
+    ensures { Painted p cells.old (circle_points p.view x y radius) result cells.new }
 {
     let table = angle_table();
     let frame = frame_of(p.view);
-    let end = cells_held(&*cells, p.columns, p.rows);
-    let mut angle: usize = 0;
-    while angle < 360 {
-        let circle_x = mul_add(radius, table[angle * 2], x);
-        let circle_y = mul_add(radius, table[angle * 2 + 1], y);
-        let d = dot_inside(frame, circle_x, circle_y);
-        paint_braille(&mut *cells, p.columns, end, d.column, d.row, p.word);
-        angle += 1;
-    }
-    360
-}
-
-// A circle some points of which are outside, on a Braille grid: each point is tested.
-fn circle_partly(cells: &mut [u32], p: Painter, x: f64, y: f64, radius: f64) -> u64
-    requires { RegularBraille p × CircleInDomain x y radius }
-    ensures { (result ≡ length (circle_points p.view x y radius)) × (cells.new ≡ painted_by p cells.old (circle_points p.view x y radius)) }
-{
-    let table = angle_table();
-    let frame = frame_of(p.view);
-    let end = cells_held(&*cells, p.columns, p.rows);
-    let v = p.view;
-    let b = v.bounds;
-    let mut painted: u64 = 0;
-    let mut turn: usize = 0;
-    while turn < 360 {
+    let end = cells_held(cells, p.columns, p.rows);
+    let b = p.view.bounds;
+    let mut painted = 0;
+    for turn in 0..360 {
         let turn_x = mul_add(radius, table[turn * 2], x);
         let turn_y = mul_add(radius, table[turn * 2 + 1], y);
-        if is_inside(b, turn_x, turn_y) {
+        if !TESTED || is_inside(b, turn_x, turn_y) {
             let d = dot_inside(frame, turn_x, turn_y);
-            paint_braille(&mut *cells, p.columns, end, d.column, d.row, p.word);
+            paint_braille(cells, p.columns, end, d.column, d.row, p.word);
             painted += 1;
         }
-        turn += 1;
     }
     painted
 }
@@ -222,18 +183,16 @@ fn circle_partly(cells: &mut [u32], p: Painter, x: f64, y: f64, radius: f64) -> 
 // The same on any grid, as circle.rs has it: each angle's cosine and sine are computed, and each point
 // is tested.
 fn circle_any(cells: &mut [u32], p: Painter, x: f64, y: f64, radius: f64) -> u64
-    ensures { (result ≡ length (circle_points p.view x y radius)) × (cells.new ≡ painted_by p cells.old (circle_points p.view x y radius)) }
+    ensures { Painted p cells.old (circle_points p.view x y radius) result cells.new }
 {
     let frame = frame_of(p.view);
-    let mut painted: u64 = 0;
-    let mut degree: u16 = 0;
-    while degree < 360 {
-        let radians = to_radians(degree as f64);
+    let mut painted = 0;
+    for degree in 0..360u16 {
+        let radians = to_radians(f64::from(degree));
         let point_x = mul_add(radius, cos(radians), x);
         let point_y = mul_add(radius, sin(radians), y);
         let found = spot(frame, point_x, point_y);
-        painted += paint_found(&mut *cells, p, found);
-        degree += 1;
+        painted += paint_found(cells, p, found);
     }
     painted
 }
@@ -241,35 +200,29 @@ fn circle_any(cells: &mut [u32], p: Painter, x: f64, y: f64, radius: f64) -> u64
 // A circle: the points at 360 angles. On Braille their cosines and sines stand in a table, and what need
 // not be tested for each point is tested here.
 pub fn paint_circle(cells: &mut [u32], p: Painter, x: f64, y: f64, radius: f64) -> u64
-    ensures { (result ≡ length (circle_points p.view x y radius)) × (cells.new ≡ painted_by p cells.old (circle_points p.view x y radius)) }
+    ensures { Painted p cells.old (circle_points p.view x y radius) result cells.new }
 {
     let known = in_domain(x) & in_domain(y) & in_domain(radius);
     let regular = is_regular(p.view);
-    if (p.marker == 1) & (known & regular) {
+    if (p.marker == Marker::Braille) & (known & regular) {
         let v = p.view;
         if is_circle_inside(v.bounds, x, y, radius) {
-            return circle_inside(&mut *cells, p, x, y, radius);
+            return circle_braille::<false>(cells, p, x, y, radius);
         }
-        return circle_partly(&mut *cells, p, x, y, radius);
+        return circle_braille::<true>(cells, p, x, y, radius);
     }
-    circle_any(&mut *cells, p, x, y, radius)
+    circle_any(cells, p, x, y, radius)
 }
 
 // A shape.
+#[tactic(auto, unfolding(crate::specs::Drawing::shape_dots))]
 pub fn paint_shape(cells: &mut [u32], p: Painter, shape: Shape) -> u64
-    ensures { (result ≡ length (shape_dots p.view shape)) × (cells.new ≡ painted_by p cells.old (shape_dots p.view shape)) }
+    ensures { Painted p cells.old (shape_dots p.view shape) result cells.new }
 {
     match shape {
-        Shape::Line(s) => paint_line(&mut *cells, p, s),
-        Shape::FilledLine(s, fill_to_y) => paint_filled_line(&mut *cells, p, s, fill_to_y),
-        Shape::Rectangle(x, y, width, height) => paint_rectangle(
-            &mut *cells,
-            p,
-            x,
-            y,
-            width,
-            height,
-        ),
-        Shape::Circle(x, y, radius) => paint_circle(&mut *cells, p, x, y, radius),
+        Shape::Line(s) => paint_line(cells, p, s),
+        Shape::FilledLine(s, fill_to_y) => paint_filled_line(cells, p, s, fill_to_y),
+        Shape::Rectangle(x, y, width, height) => paint_rectangle(cells, p, x, y, width, height),
+        Shape::Circle(x, y, radius) => paint_circle(cells, p, x, y, radius),
     }
 }

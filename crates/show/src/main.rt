@@ -3,18 +3,19 @@
 #![tactic(auto)]
 
 use report::program::print_show;
-use streams::{print, read_input};
+use streams::{FILE_ROOM, Program};
 
-// The buffer has one byte more than a file may have: where it is full, the file is refused with 17
-// whatever follows (report's `Enough`).
+// Apart from `layout`'s, since no bound over functions may name the length of `out`, by which the two differ.
 fn main(rt: HostRuntime) {
-    let mut buffer = [0u8; 65537];
-    let input = read_input(&rt, b"show", &mut buffer);
-    if input.failed {
+    let program = Program {
+        runtime: &rt,
+        name: b"show",
+    };
+    let mut buffer = [0u8; FILE_ROOM];
+    let Ok(count) = program.read(&mut buffer) else {
         return;
-    }
-    let n = input.count;
+    };
     let mut out = [0u8; 81920];
-    let length = print_show(&buffer[..n], &mut out);
-    print(&rt, b"show", &out[..length]);
+    let length = print_show(&buffer[..count], &mut out);
+    let _ = program.print(&out[..length]);
 }

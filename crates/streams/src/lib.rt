@@ -2,80 +2,68 @@
 // line to standard error says so, and likewise of a write that fails.
 #![tactic(auto)]
 
-ghost use Rattle.std.specs.Prelude.{◌≡◌, ◌≤◌, length, take};
+ghost use Rattle.std.specs.Prelude.{◌≡◌, ◌≤◌, length, take, IfOk};
 
 use std::io;
 use std::io::Read;
 
-// How many bytes of the input stand at the start of a buffer, and whether a read of it failed.
-#[derive(Clone, Copy)]
-pub struct Input {
-    pub count: usize,
-    pub failed: bool,
-}
+// One byte more than a picture file may have: where such a buffer is full, the file is refused with 17
+// whatever follows (report's `Enough`).
+pub const FILE_ROOM: usize = 65537;
 
-// One read. It counts nothing at the end of the input, and where it fails.
-fn read_once(reader: &mut impl Read, part: &mut [u8]) -> Input
-    ensures { result.count ≤ length part.new }
+// To the end of the input or of the buffer, whichever comes first. Answers how many bytes of the input
+// stand at the start of the buffer.
+fn read_all(reader: &mut impl Read, buffer: &mut [u8]) -> io::Result<usize>
+    ensures in_buffer { IfOk result (λ count. count ≤ length buffer.new) }
+    ensures prefix { IfOk result (λ count. count ≡ length (take count buffer.new)) }
 {
-    match reader.read(&mut *part) {
-        Ok(count) => Input {
-            count,
-            failed: false,
-        },
-        Err(_) => Input {
-            count: 0,
-            failed: true,
-        },
-    }
-}
-
-// To the end of the input or of the buffer, whichever comes first.
-fn read_all(rt: &impl io::Input, buffer: &mut [u8]) -> Input
-    ensures in_buffer { result.count ≤ length buffer.new }
-    ensures prefix { result.count ≡ length (take result.count buffer.new) }
-{
-    let mut reader = rt.reader();
     let mut count = 0;
+    // No range or iterator serves: each read says how far the next one starts.
     while count < buffer.len() {
-        let more = read_once(&mut reader, &mut buffer[count..]);
-        let moved = more.count;
-        if moved == 0 {
-            return Input {
-                count,
-                failed: more.failed,
-            };
+        let more = reader.read(&mut buffer[count..])?;
+        if more == 0 {
+            break;
         }
-        count += moved;
+        count += more;
     }
-    Input {
-        count,
-        failed: false,
+    Ok(count)
+}
+
+// A program: its runtime, and the name under which it says on standard error what it could not do.
+#[derive(Drop)]
+pub struct Program<'a, R> {
+    pub runtime: &'a R,
+    pub name: &'a [u8],
+}
+
+impl<R: Eprint> Program<'_, R> {
+    // Nothing is left to do where the line cannot be written.
+    fn say(&self, what: &str) {
+        let _ = eprintln!(self.runtime; "{}: {what}", self.name.escape_ascii());
+    }
+
+    // Says it where the output could not be written.
+    pub fn written(&self, printed: io::Result<()>) -> io::Result<()>
+        ensures { result ≡ printed }
+    {
+        printed.inspect_err(|_| self.say("the output could not be written"))
     }
 }
 
-// The line of a program that could not do something. Nothing is left to do where it cannot be written.
-fn say(rt: &impl Eprint, program: &[u8], what: &str) {
-    let _ = eprintln!(rt; "{}: {what}", program.escape_ascii());
+impl<R: io::Input + Eprint> Program<'_, R> {
+    // Reads to the end of the input or of the buffer, whichever comes first.
+    pub fn read(&self, buffer: &mut [u8]) -> io::Result<usize>
+        ensures in_buffer { IfOk result (λ count. count ≤ length buffer.new) }
+        ensures prefix { IfOk result (λ count. count ≡ length (take count buffer.new)) }
+    {
+        let input = read_all(&mut self.runtime.reader(), &mut *buffer);
+        input.inspect_err(|_| self.say("the input could not be read"))
+    }
 }
 
-// Reads to the end of the input or of the buffer, whichever comes first.
-pub fn read_input(rt: &(impl io::Input + Eprint), program: &[u8], buffer: &mut [u8]) -> Input
-    ensures in_buffer { result.count ≤ length buffer.new }
-    ensures prefix { result.count ≡ length (take result.count buffer.new) }
-{
-    let input = read_all(rt, &mut *buffer);
-    if input.failed {
-        say(rt, program, "the input could not be read");
+impl<R: Print + Eprint> Program<'_, R> {
+    // Writes bytes to standard output.
+    pub fn print(&self, bytes: &[u8]) -> io::Result<()> {
+        self.written(self.runtime.write_all(bytes))
     }
-    input
-}
-
-// Writes bytes to standard output. Answers whether all were written.
-pub fn print(rt: &(impl Print + Eprint), program: &[u8], bytes: &[u8]) -> bool {
-    if rt.write_all(bytes).is_ok() {
-        return true;
-    }
-    say(rt, program, "the output could not be written");
-    false
 }

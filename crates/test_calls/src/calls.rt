@@ -1,108 +1,154 @@
-// The calls that draw nothing: each step decodes its operands and makes the one call, over the lent parts
-// of the stores.
-use crate::answers::{answered, show_point};
-use crate::kept::Held;
-use crate::operands::{bounds_of, float_at};
-use crate::words::text_length;
-use canvas::calls::{get_point, layer, marker, open, print, render};
-use form::fields::{has, number8, number16, number32};
-use ledger::labels::Choice;
+// The steps that make a call, over the lent parts of the arrays.
+use crate::answer::Answer;
+use crate::run::Run;
+use crate::step::Step;
+use canvas::calls::{dot, draw, get_point, layer, marker, open, print, render, zero_canvas};
+use form::fields::FieldValue;
 use ledger::screen::Area;
+use pairs::points::points;
+use refusals::refusal::Refusal;
+use shapes::painters::{Pair, Shape};
 
-// 02: k = columns + 65,536 × rows; w0 to w3 the bounds; a marker, m character, n background.
-pub fn open_step(rt: &impl Print, h: Held, step: &[u8], cells: &mut [u32], labels: &[u32]) -> Held {
-    let columns = number16(step, 12);
-    let rows = number16(step, 14);
-    let bounds = bounds_of(step);
-    let number = number8(step, 1);
-    let character = number32(step, 8);
-    let background = number32(step, 4);
-    let called = open(
-        columns,
-        rows,
-        bounds,
-        number,
-        character,
-        background,
-        &mut *cells,
-        labels,
-    );
-    answered(rt, h, called)
-}
-
-// 0B.
-pub fn layer_step(rt: &impl Print, h: Held, cells: &mut [u32], labels: &[u32]) -> Held {
-    let called = layer(h.canvas, &mut *cells, labels);
-    answered(rt, h, called)
-}
-
-// 0C: a marker, m character.
-pub fn marker_step(
-    rt: &impl Print,
-    h: Held,
-    step: &[u8],
-    cells: &mut [u32],
-    labels: &[u32],
-) -> Held {
-    let number = number8(step, 1);
-    let character = number32(step, 8);
-    let called = marker(h.canvas, &mut *cells, labels, number, character);
-    answered(rt, h, called)
-}
-
-// A label's colour: n where bit 1 of b stands.
-fn choice_of(step: &[u8]) -> Choice {
-    if has(number8(step, 2), 2) {
-        return Choice::Colour(number32(step, 4));
+impl Run {
+    // 02: k = columns + 65,536 × rows; w0 to w3 the bounds; a marker, m character, n background.
+    pub(crate) fn open(&mut self, step: &Step) -> Result<Answer, Refusal> {
+        let (columns, rows) = step.size();
+        let lengths = self.lengths;
+        let cells: &mut [u32] = &mut self.cells;
+        self.canvas = zero_canvas();
+        self.canvas = open(
+            columns,
+            rows,
+            step.bounds(),
+            step.a(),
+            step.m(),
+            step.n(),
+            &mut cells[..lengths.cells],
+            &self.labels[..lengths.labels],
+        )?;
+        Ok(Answer::Done)
     }
-    Choice::Nothing
-}
 
-// 0D: w0 x, w1 y; the text is the first k bytes of the scratch.
-pub fn print_step(
-    rt: &impl Print,
-    h: Held,
-    step: &[u8],
-    cells: &[u32],
-    labels: &mut [u32],
-    scratch: &[u8],
-) -> Held {
-    let x = float_at(step, 16);
-    let y = float_at(step, 24);
-    let choice = choice_of(step);
-    let n = text_length(number32(step, 12), h.scratch, scratch);
-    let called = print(h.canvas, cells, &mut *labels, x, y, &scratch[..n], choice);
-    answered(rt, h, called)
-}
+    // 05 to 08, in the colour n.
+    pub(crate) fn draw(&mut self, step: &Step, shape: Shape) -> Result<Answer, Refusal> {
+        let lengths = self.lengths;
+        let cells: &mut [u32] = &mut self.cells;
+        let painted = draw(
+            &mut self.canvas,
+            &mut cells[..lengths.cells],
+            &self.labels[..lengths.labels],
+            shape,
+            step.n(),
+        )?;
+        Ok(Answer::Painted(painted))
+    }
 
-// 0E: w0, w1 the screen's columns and rows, w2, w3 the area's corner.
-pub fn render_step(
-    rt: &impl Print,
-    h: Held,
-    step: &[u8],
-    cells: &mut [u32],
-    labels: &[u32],
-    screen: &mut [u32],
-) -> Held {
-    let columns = number16(step, 16);
-    let rows = number16(step, 24);
-    let x = number16(step, 32);
-    let y = number16(step, 40);
-    let area = Area {
-        columns,
-        rows,
-        x,
-        y,
-    };
-    let called = render(h.canvas, &mut *cells, labels, area, &mut *screen);
-    answered(rt, h, called)
-}
+    // 09: the first k pairs of the scratch, in the colour n.
+    pub(crate) fn points(&mut self, step: &Step) -> Result<Answer, Refusal> {
+        let lengths = self.lengths;
+        let mut pairs = [Pair { x: 0.0, y: 0.0 }; 2048];
+        let count = (step.k() as usize).min(lengths.scratch / 16);
+        for i in 0..count {
+            let bytes = &self.scratch[16 * i..16 * i + 16];
+            pairs[i] = Pair {
+                x: f64::read(bytes, 0),
+                y: f64::read(bytes, 8),
+            };
+        }
+        let cells: &mut [u32] = &mut self.cells;
+        let painted = points(
+            &mut self.canvas,
+            &mut cells[..lengths.cells],
+            &self.labels[..lengths.labels],
+            &pairs[..count],
+            step.n(),
+        )?;
+        Ok(Answer::Painted(painted))
+    }
 
-// 0F: w0 x, w1 y.
-pub fn get_point_step(rt: &impl Print, h: Held, step: &[u8]) -> Held {
-    let x = float_at(step, 16);
-    let y = float_at(step, 24);
-    let found = get_point(h.canvas, x, y);
-    show_point(rt, found);
-    h
+    // 0A: w0 column, w1 row.
+    pub(crate) fn dot(&mut self, step: &Step) -> Result<Answer, Refusal> {
+        let lengths = self.lengths;
+        let cells: &mut [u32] = &mut self.cells;
+        let painted = dot(
+            &mut self.canvas,
+            &mut cells[..lengths.cells],
+            &self.labels[..lengths.labels],
+            step.word(0),
+            step.word(1),
+            step.n(),
+        )?;
+        Ok(Answer::Painted(painted))
+    }
+
+    // 0B.
+    pub(crate) fn layer(&mut self) -> Result<Answer, Refusal> {
+        let lengths = self.lengths;
+        let cells: &mut [u32] = &mut self.cells;
+        layer(
+            &mut self.canvas,
+            &mut cells[..lengths.cells],
+            &self.labels[..lengths.labels],
+        )?;
+        Ok(Answer::Done)
+    }
+
+    // 0C: a marker, m character.
+    pub(crate) fn marker(&mut self, step: &Step) -> Result<Answer, Refusal> {
+        let lengths = self.lengths;
+        let cells: &mut [u32] = &mut self.cells;
+        marker(
+            &mut self.canvas,
+            &mut cells[..lengths.cells],
+            &self.labels[..lengths.labels],
+            step.a(),
+            step.m(),
+        )?;
+        Ok(Answer::Done)
+    }
+
+    // 0D: w0 x, w1 y; the text is the first k bytes of the scratch; n its colour where bit 1 of b stands.
+    pub(crate) fn print(&mut self, step: &Step) -> Result<Answer, Refusal> {
+        let lengths = self.lengths;
+        let labels: &mut [u32] = &mut self.labels;
+        let n = lengths.scratch.min(step.k() as usize);
+        let colour = step.has_colour().then_some(step.n());
+        print(
+            &mut self.canvas,
+            &self.cells[..lengths.cells],
+            &mut labels[..lengths.labels],
+            step.word(0),
+            step.word(1),
+            &self.scratch[..n],
+            colour,
+        )?;
+        Ok(Answer::Done)
+    }
+
+    // 0E: w0, w1 the screen's columns and rows, w2, w3 the area's corner.
+    pub(crate) fn render(&mut self, step: &Step) -> Result<Answer, Refusal> {
+        let area = Area {
+            columns: step.word(0),
+            rows: step.word(1),
+            x: step.word(2),
+            y: step.word(3),
+        };
+        let lengths = self.lengths;
+        let cells: &mut [u32] = &mut self.cells;
+        let screen: &mut [u32] = &mut self.screen;
+        let rendered = render(
+            &mut self.canvas,
+            &mut cells[..lengths.cells],
+            &self.labels[..lengths.labels],
+            area,
+            &mut screen[..lengths.screen],
+        )?;
+        Ok(Answer::Rendered(rendered))
+    }
+
+    // 0F: w0 x, w1 y.
+    pub(crate) fn point(&self, step: &Step) -> Result<Answer, Refusal> {
+        let dot = get_point(self.canvas, step.word(0), step.word(1))?;
+        Ok(Answer::Dot(dot))
+    }
 }

@@ -1,15 +1,15 @@
 -- The digits of a number: they do not turn on the count of divisions once there are enough, and a number below base ^ j has at most j. By induction on the divisions.
-use Prim.Native.Nat.{ℕ, zero, suc, ◌+◌, ◌-◌, ◌/◌, ◌%◌, ◌^◌, ◌≤◌, ◌<◌}
+use Prim.Native.Nat.{ℕ, zero, suc, ◌-◌, ◌/◌, ◌%◌, ◌^◌, ◌≤◌, ◌<◌}
 use mathlib.Core.Path.{◌≡◌, refl, ap, ◌∙◌}
 use mathlib.Core.Logic.{◌⊎◌, inl, inr}
 use mathlib.Core.Bool.{Bool, true, false, cond, ◌&&◌}
 use mathlib.Core.List.{List, [], ◌∷◌, ◌++◌}
-use native.Mathlib.Nat.{div-le_self, div-lt_self, div-lt_iff_lt-mul, pow-suc, pow-zero, one-mul}
+use native.Mathlib.Nat.{div-lt_iff_lt-mul, pow-suc, pow-zero, one-mul}
 use native.Mathlib.Omega.{arith}
 use lib.Dec.{ltb, leb}
 use lib.ListN.{length, length-append}
-use borrow.Author.Tests.{lt-ltb, le-ltb, le-leb, ltb-true, ltb-false, leb-true, leb-false}
-use Rattle.text.specs.Numbers.{digit_byte, digits, decimal, hexadecimal_digits}
+use borrow.Author.Tests.{lt-ltb, le-leb, ltb-true, ltb-false, leb-true, leb-false}
+use Rattle.text.specs.Numbers.{digit_byte, digits, hexadecimal_digits}
 
 -- ---- one division: the digits before the last one, and all of them
 
@@ -47,14 +47,6 @@ not_last base least n e = go (ltb n base) (leb least 1) refl refl e
     go true false x y z = inr (leb-false least 1 y)
     go false t x y z = inl (ltb-false n base x)
 
--- what is left to write falls
-pub left-falls : (base least n : ℕ) → 1 < base → is_last base least n ≡ false → n / base + (least - 1) < n + least
-left-falls base least n large e = go (not_last base least n e)
-  where
-    go : (base ≤ n) ⊎ (1 < least) → n / base + (least - 1) < n + least
-    go (inl h) = omega (arith, div-lt_self {n = n} {k = base} (omega arith) large)
-    go (inr h) = omega (arith, div-le_self n base)
-
 power-one : (base : ℕ) → base ^ 1 ≡ base
 power-one base = pow-suc base 0 ∙ rw (pow-zero base) (one-mul base)
 
@@ -79,15 +71,6 @@ module _ (base : ℕ) (large : 1 < base) where
   digits_last zero least n e = refl
   digits_last (suc k) least n e = rw e
 
-  pub digits_step : (k least n : ℕ) → least ≤ suc (suc k) → n < base ^ suc (suc k) → is_last base least n ≡ false
-      → digits (suc k) base least n ≡ digits (suc k) base (least - 1) (n / base) ++ (digit_byte (n % base) ∷ [])
-  unfolding digits
-  digits_step k least n a h e =
-      let below : n / base < base ^ suc (suc k) = omega (arith, div-le_self n base) in
-      rw e
-      (ap (λ (ds : List ℕ). ds ++ (digit_byte (n % base) ∷ []))
-      (enough k (suc k) (least - 1) (n / base) (omega arith) (quotient-below k n h) (omega arith) below))
-
   -- a number below base ^ (j + 1) has at most j + 1 digits, unless more are asked for
   pub few-digits : (k j least n : ℕ) → least ≤ suc j → n < base ^ suc j → length (digits k base least n) ≤ suc j
   unfolding digits
@@ -99,29 +82,9 @@ module _ (base : ℕ) (large : 1 < base) where
       go true ih = omega arith
       go false ih = rw length-append (omega arith)
 
--- ---- decimal and hexadecimal
+-- ---- hexadecimal
 
-pub decimal-last : (n : ℕ) → n < 10 → decimal n ≡ digit_byte n ∷ []
-unfolding decimal
-decimal-last n h = digits_last 10 (omega arith) 19 0 n (rw (lt-ltb n 10 h))
-
-pub decimal_step : (n : ℕ) → n < 2 ^ 64 → 10 ≤ n → decimal n ≡ decimal (n / 10) ++ (digit_byte (n % 10) ∷ [])
-unfolding decimal
-decimal_step n i h = digits_step 10 (omega arith) 18 0 n (omega arith) (omega arith) (rw (le-ltb n 10 h))
-
-pub decimal-short : (n : ℕ) → n < 2 ^ 64 → length (decimal n) ≤ 20
-unfolding decimal
-decimal-short n i = few-digits 10 (omega arith) 19 19 0 n (omega arith) (omega arith)
-
-module _ (least n : ℕ) where
-  pub hexadecimal-last : is_last 16 least n ≡ true → hexadecimal_digits least n ≡ digit_byte n ∷ []
-  unfolding hexadecimal_digits
-  hexadecimal-last e = digits_last 16 (omega arith) 15 least n e
-
-  pub hexadecimal-step : least ≤ 16 → n < 2 ^ 64 → is_last 16 least n ≡ false → hexadecimal_digits least n ≡ hexadecimal_digits (least - 1) (n / 16) ++ (digit_byte (n % 16) ∷ [])
-  unfolding hexadecimal_digits
-  hexadecimal-step h i e = digits_step 16 (omega arith) 14 least n h i e
-
-  pub hexadecimal-short : least ≤ 16 → n < 2 ^ 64 → length (hexadecimal_digits least n) ≤ 16
-  unfolding hexadecimal_digits
-  hexadecimal-short h i = few-digits 16 (omega arith) 15 15 least n h i
+-- more divisions give no other digits
+pub hexadecimal-more : (n : ℕ) → n < 2 ^ 64 → hexadecimal_digits 4 n ≡ digits 19 16 4 n
+unfolding hexadecimal_digits
+hexadecimal-more n h = enough 16 (omega arith) 15 19 4 n (omega arith) (omega arith) (omega arith) (omega arith)

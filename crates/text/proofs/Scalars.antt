@@ -1,13 +1,19 @@
 -- UTF-8 read back gives the scalar value; what is shown is a scalar value and no control character, and has no control character's byte. By cases on the ranges of RFC 3629's table.
 use Prim.Native.Nat.{ℕ, ◌+◌, ◌/◌, ◌≤◌, ◌<◌}
-use mathlib.Core.Path.{◌≡◌, refl, ap, ◌∙◌}
+use mathlib.Core.Path.{◌≡◌, refl, ap, sym, ◌∙◌}
 use mathlib.Core.Bool.{Bool, true, false, cond, not, ◌&&◌, ◌||◌}
 use mathlib.Core.List.{[], ◌∷◌}
 use mathlib.Core.Option.{some}
 use native.Mathlib.Nat.{div-div-eq-div-mul}
 use native.Mathlib.Omega.{arith}
 use lib.Dec.{ltb, leb}
+use lib.Utf8.{scalar, encode}
 use borrow.Author.Tests.{lt-ltb, le-leb, ltb-true, ltb-false, not-true}
+use Rattle.std.proofs.lemmas.Grind.{common_steps}
+use Rattle.std.specs.Char.{is_control as std_control}
+use Rattle.std.specs.Prelude.{Option, Some, None, SomeIff, MatchOption}
+use Rattle.std.specs.Option.{unwrap_or}
+use Rattle.std.specs.Bool.{then_some}
 use Rattle.text.specs.Utf8.{is_scalar, is_control, shown_symbol, continuation, utf8, symbol_bytes, within, given_that, two, three, four, decode, AllPlain}
 
 -- ---- tests that hold together
@@ -105,13 +111,39 @@ shown-printable word = go (is_scalar word && not (is_control word)) refl
     go true e = let h = both-parts (is_scalar word) (not (is_control word)) e in (h.0, not-true (is_control word) h.1)
     go false e = (refl, refl)
 
-pub shown-itself : (word : ℕ) → is_scalar word && not (is_control word) ≡ true → (word ≡ shown_symbol word) × (word < 0x110000)
-unfolding shown_symbol
-shown-itself word e = (rw e, scalar_below word (both-parts (is_scalar word) (not (is_control word)) e).0)
+-- ---- std's tests and its bytes are these
 
-pub shown-replaced : (word : ℕ) → is_scalar word && not (is_control word) ≡ false → (0xFFFD ≡ shown_symbol word) × (0xFFFD < 0x110000)
+pub encode-utf8 : (s : ℕ) → encode s ≡ utf8 s
+unfolding encode utf8
+encode-utf8 s = refl
+
+scalar-is : (c : ℕ) → scalar c ≡ is_scalar c
+scalar-is c = go (ltb c 0xD800)
+  where
+    go : (t : Bool) → cond t true (leb 0xE000 c && ltb c 0x110000) ≡ t || (leb 0xE000 c && ltb c 0x110000)
+    go true = refl
+    go false = refl
+
+control-is : (c : ℕ) → std_control c ≡ is_control c
+control-is c = ap (λ (b : Bool). b || (leb 0x7F c && leb c 0x9F)) (grind (arith, common_steps))
+
+-- the symbol where it is a scalar value that passes the test, else U+FFFD
+pub shown_by : (symbol : ℕ) (o r : Option ℕ) {Q : ℕ → Bool → Type 0} → ((x : ℕ) (b : Bool) → Q x b → b ≡ not (std_control x))
+    → SomeIff o (scalar symbol ≡ true) symbol → MatchOption o (r ≡ None) (λ x. (b : Bool) × Q x b × (r ≡ then_some b x))
+    → unwrap_or r 0xFFFD ≡ shown_symbol symbol
 unfolding shown_symbol
-shown-replaced word e = (rw e, omega arith)
+shown_by symbol None r q s m = rw m (go (is_scalar symbol) (scalar-is symbol))
+  where
+    go : (t : Bool) → scalar symbol ≡ t → 0xFFFD ≡ cond (t && not (is_control symbol)) symbol 0xFFFD
+    go true e = absurd (s e)
+    go false e = refl
+shown_by symbol (Some x) r q s m =
+    let control : is_control symbol ≡ std_control x = sym (control-is symbol) ∙ ap std_control (sym s.1) in
+    rw (m.2, sym (scalar-is symbol) ∙ s.0, control, sym (q x m.0 m.1)) (go m.0)
+  where
+    go : (b : Bool) → unwrap_or (then_some b x) 0xFFFD ≡ cond b symbol 0xFFFD
+    go true = s.1
+    go false = refl
 
 pub symbol-decodes : (word : ℕ) → decode (symbol_bytes word) ≡ some (shown_symbol word)
 unfolding symbol_bytes

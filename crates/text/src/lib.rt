@@ -4,9 +4,9 @@
 // number counts them too.
 #![tactic(auto)]
 
-mod bytes; // bytes.rt: bytes put one after the other
 pub mod listing; // listing.rt: the listing and the refusal of document 01
 mod numbers; // numbers.rt: decimal and hexadecimal numbers
 mod screen; // screen.rt: the words of a screen
 pub mod terminal; // terminal.rt: the screen with a terminal's colours
 mod utf8; // utf8.rt: a symbol in UTF-8
+mod writer; // writer.rt: bytes put one after the other

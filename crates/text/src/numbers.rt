@@ -1,69 +1,51 @@
 // Numbers in decimal and in hexadecimal capitals, the most significant digit first.
-ghost use Rattle.std.specs.Prelude.{◌≡◌, ◌+◌, ◌-◌, ◌≤◌, ◌<◌, ◌^◌};
-ghost use Rattle.text.specs.Bytes.{Wrote};
-ghost use Rattle.text.specs.Numbers.{digit_byte, decimal, hexadecimal_digits, field, hexadecimal_field};
+ghost use Rattle.std.specs.Prelude.{[], ◌∷◌, ◌++◌, ◌≡◌, ◌≤◌, ◌<◌};
+ghost use Rattle.text.specs.Numbers.{digit_byte, digits, field, hexadecimal_field};
+ghost use Rattle.text.specs.Writer.{Wrote};
 
-use crate::bytes::put_byte;
+use crate::writer::Writer;
 
 // The character of a digit.
-fn digit(d: u64) -> u8
+fn digit(d: u8) -> u8
     requires { d < 16 }
     ensures { result ≡ digit_byte d }
 {
-    if d < 10 {
-        return 0x30 + d as u8;
+    if d < 10 { b'0' + d } else { b'A' + (d - 10) }
+}
+
+impl Writer<'_> {
+    // The digits of n in a base, at least `least` of them, with zeros in front, and the byte after them.
+    // From base 10 on a number of 64 bits has at most 20.
+    fn number<const BASE: u64>(&mut self, mut least: usize, mut n: u64, end: u8)
+        requires base { (10 ≤ BASE) × (BASE ≤ 16) }
+        requires few { least ≤ 20 }
+        ensures { Wrote self.old (digits 19 BASE least n ++ (end ∷ [])) self.new }
+    {
+        // Into a buffer from its end, since a method that calls itself gets no proof where the struct has a lifetime;
+        // how many digits there are is known only once they are taken.
+        let mut buffer = [end; 21];
+        let mut first = 19;
+        while n >= BASE || least > 1 {
+            buffer[first] = digit((n % BASE) as u8);
+            n /= BASE;
+            least = least.saturating_sub(1);
+            first -= 1;
+        }
+        buffer[first] = digit(n as u8);
+        self.bytes(&buffer[first..]);
     }
-    0x37 + d as u8
-}
 
-// At most 20 digits, without a zero in front.
-pub(crate) fn put_decimal(out: &mut [u8], p: usize, n: u64) -> usize
-    requires { p < 2 ^ 61 }
-    ensures wrote { Wrote out.old p (decimal n) out.new result }
-    ensures upper_bound { result ≤ p + 20 }
-{
-    if n < 10 {
-        return put_byte(&mut *out, p, digit(n));
+    // A decimal number and the byte after it.
+    pub(crate) fn field(&mut self, n: u64, end: u8)
+        ensures { Wrote self.old (field n end) self.new }
+    {
+        self.number::<10>(0, n, end);
     }
-    let next = put_decimal(&mut *out, p, n / 10);
-    put_byte(&mut *out, next, digit(n % 10))
-}
 
-fn one_fewer(least: usize) -> usize
-    ensures { result ≡ least - 1 }
-{
-    if least == 0 { 0 } else { least - 1 }
-}
-
-// At least `least` digits, with zeros in front.
-fn put_hexadecimal(out: &mut [u8], p: usize, least: usize, n: u64) -> usize
-    requires { (p < 2 ^ 61) × (least ≤ 16) }
-    ensures wrote { Wrote out.old p (hexadecimal_digits least n) out.new result }
-    ensures upper_bound { result ≤ p + 16 }
-{
-    if (n < 16) & (least <= 1) {
-        return put_byte(&mut *out, p, digit(n));
+    // A hexadecimal number of at least four digits and the byte after it.
+    pub(crate) fn hexadecimal_field(&mut self, n: u64, end: u8)
+        ensures { Wrote self.old (hexadecimal_field n end) self.new }
+    {
+        self.number::<16>(4, n, end);
     }
-    let next = put_hexadecimal(&mut *out, p, one_fewer(least), n / 16);
-    put_byte(&mut *out, next, digit(n % 16))
-}
-
-// A decimal number and the byte after it.
-pub(crate) fn put_field(out: &mut [u8], p: usize, n: u64, end: u8) -> usize
-    requires { p < 2 ^ 61 }
-    ensures wrote { Wrote out.old p (field n end) out.new result }
-    ensures upper_bound { result ≤ p + 21 }
-{
-    let next = put_decimal(&mut *out, p, n);
-    put_byte(&mut *out, next, end)
-}
-
-// A hexadecimal number of at least four digits and the byte after it.
-pub(crate) fn put_hexadecimal_field(out: &mut [u8], p: usize, n: u64, end: u8) -> usize
-    requires { p < 2 ^ 61 }
-    ensures wrote { Wrote out.old p (hexadecimal_field n end) out.new result }
-    ensures upper_bound { result ≤ p + 17 }
-{
-    let next = put_hexadecimal(&mut *out, p, 4, n);
-    put_byte(&mut *out, next, end)
 }

@@ -5,7 +5,7 @@ pub mod Halves
 pub mod HalfMore
 pub mod Places
 pub mod Axis
-use Rattle.std.proofs.Common.{◌≡◌, ℕ, zero, suc, ◌+◌, ◌-◌, ◌*◌, ◌^◌, ◌<◌, ◌≤◌, min, Bool, true, false, cond, ◌&&◌, ◌||◌, ◌⊎◌, ℤ, sym, refl, ◌∙◌, subst, inl, inr, zero-le, le_trans, le_of_eq, mul-le-mul_right, zero-lt-suc, eq-zero-or-pos, eq-or-lt_of_le, mul-le-mul_left, mul-pos, zero-mul, arith, lit<, lit≤, pow_pos, lt-ltb}
+use Rattle.std.proofs.Common.{◌≡◌, ℕ, zero, suc, ◌+◌, ◌-◌, ◌*◌, ◌^◌, ◌<◌, ◌≤◌, min, Bool, true, false, cond, ◌&&◌, ◌||◌, ◌⊎◌, ℤ, Option, Some, None, sym, refl, ◌∙◌, subst, inl, inr, zero-le, le_trans, le_of_eq, mul-le-mul_right, zero-lt-suc, eq-zero-or-pos, eq-or-lt_of_le, mul-le-mul_left, mul-pos, zero-mul, arith, lit<, lit≤, pow_pos, lt-ltb}
 use native.Mathlib.Nat.{eq_of_mul-eq-mul_right}
 use lib.Ieee.{Float, nan, inf, fin, binary64, up, down, round, add, sub, mul, div, lt, le, below, level, of_int, of_bits}
 use lib.Ieee.Fits.{up_pos}
@@ -18,14 +18,12 @@ use Rattle.floats.specs.Truncation.{as_signed, as_unsigned}
 use Rattle.floats.specs.Methods.{abs_of}
 use Rattle.floats.specs.Polyfills.{round_of, 1·0}
 use Rattle.floats.specs.Domain.{in_domain}
-use Rattle.floats.proofs.Cases.{true-not-false, false-not-true, or-false-left, and-true-left, and-true-right}
+use Rattle.floats.proofs.Cases.{true-not-false, false-not-true, or-false-left, or-false-right, and-true-left, and-true-right}
 use Rattle.floats.proofs.Monotone.{le-not-above}
 use Rattle.walk.specs.declared.clip.Bounds.{Bounds}
 use Rattle.view.specs.Limits.{max_columns, max_rows}
 use Rattle.view.specs.Point.{whole, outside_bounds, flat_bounds, scaled_of, point_of, truncated_of, inside_bounds, label_place}
 use Rattle.view.specs.declared.point.View.{View}
-use Rattle.view.specs.declared.point.Found.{Found}
-use Rattle.view.specs.declared.point.Found.TheVariants.{At, Nowhere}
 use Rattle.view.proofs.ClampIdle.Bounded.{one, quarter, AtMost, truncated, under_next}
 use Rattle.view.proofs.ClampIdle.Quotient.{product-bound, quotient-bound}
 use Rattle.view.proofs.ClampIdle.Halves.{round-cut}
@@ -161,10 +159,6 @@ record Within (b : Bounds) (x y : Float) : Type 0 where
   bottom : lt y b.bottom ≡ false
   top : lt b.top y ≡ false
 
-or-false-right : (p q : Bool) → p || q ≡ false → q ≡ false
-or-false-right true q h = true-not-false h
-or-false-right false q h = h
-
 within : (b : Bounds) (x y : Float) → outside_bounds b x y ≡ false → Within b x y
 unfolding outside_bounds
 within b x y h =
@@ -206,10 +200,10 @@ module _ (b : Bounds) (x y : Float) (dots : ℕ) (d : InDomain b) (inside : outs
   clamp-idle-y = clamp-idle (b.top ⊖ y) (b.top ⊖ b.bottom) dots row_fits
 
 -- so a point is found without it
-abbrev pub unclamped_point : View → Float → Float → Found
+abbrev pub unclamped_point : View → Float → Float → Option (ℕ × ℕ)
 unclamped_point v x y =
-    cond (outside_bounds v.bounds x y || flat_bounds v.bounds) Nowhere
-    (At (unclamped_of (x ⊖ v.bounds.left) v.width (v.bounds.right ⊖ v.bounds.left)) (unclamped_of (v.bounds.top ⊖ y) v.height (v.bounds.top ⊖ v.bounds.bottom)))
+    cond (outside_bounds v.bounds x y || flat_bounds v.bounds) None
+    (Some (unclamped_of (x ⊖ v.bounds.left) v.width (v.bounds.right ⊖ v.bounds.left), unclamped_of (v.bounds.top ⊖ y) v.height (v.bounds.top ⊖ v.bounds.bottom)))
 
 pub point-unclamped : (v : View) (x y : Float) → InDomain v.bounds → 1 ≤ v.width → v.width ≤ 400 → 1 ≤ v.height → v.height ≤ 400 → point_of v x y ≡ unclamped_point v x y
 unfolding point_of
@@ -219,8 +213,8 @@ point-unclamped v x y d w1 w2 h1 h2 = go (outside_bounds v.bounds x y || flat_bo
     b = v.bounds
 
     go : (t : Bool) → outside_bounds b x y || flat_bounds b ≡ t
-        → cond t Nowhere (At (scaled_of (x ⊖ b.left) v.width (b.right ⊖ b.left)) (scaled_of (b.top ⊖ y) v.height (b.top ⊖ b.bottom)))
-        ≡ cond t Nowhere (At (unclamped_of (x ⊖ b.left) v.width (b.right ⊖ b.left)) (unclamped_of (b.top ⊖ y) v.height (b.top ⊖ b.bottom)))
+        → cond {A = Option (ℕ × ℕ)} t None (Some (scaled_of (x ⊖ b.left) v.width (b.right ⊖ b.left), scaled_of (b.top ⊖ y) v.height (b.top ⊖ b.bottom)))
+        ≡ cond t None (Some (unclamped_of (x ⊖ b.left) v.width (b.right ⊖ b.left), unclamped_of (b.top ⊖ y) v.height (b.top ⊖ b.bottom)))
     go true h = refl
     go false h =
         let i = or-false-left (outside_bounds b x y) (flat_bounds b) h in
@@ -322,9 +316,9 @@ module _ (b : Bounds) (x y : Float) (dots : ℕ) (d : InDomain b) (i : Inside b 
   unfolding flat_bounds
   row_from = falling-from b.bottom y b.top dots d.bottom d.top i.bottom i.top some few (or-false-right (le (b.right ⊖ b.left) (bits 0)) (le (b.top ⊖ b.bottom) (bits 0)) wide)
 
-abbrev InArea : ℕ → ℕ → Found → Type 0
-InArea columns rows (At c r) = (c < columns) × (r < rows)
-InArea columns rows Nowhere = Unit {0}
+abbrev InArea : ℕ → ℕ → Option (ℕ × ℕ) → Type 0
+InArea columns rows (Some (c, r)) = (c < columns) × (r < rows)
+InArea columns rows None = Unit {0}
 
 module _ (b : Bounds) (columns rows : ℕ) (d : InDomain b) (some-columns : 1 ≤ columns) (few-columns : columns ≤ max_columns) (some-rows : 1 ≤ rows) (few-rows : rows ≤ max_rows) where
   place_inside : (x y : Float) → InArea columns rows (label_place b columns rows x y)
@@ -332,7 +326,7 @@ module _ (b : Bounds) (columns rows : ℕ) (d : InDomain b) (some-columns : 1 �
   place_inside x y = go (inside_bounds b x y) refl
     where
       go : (t : Bool) → inside_bounds b x y ≡ t
-          → InArea columns rows (cond t (At (truncated_of (x ⊖ b.left) columns (b.right ⊖ b.left)) (truncated_of (b.top ⊖ y) rows (b.top ⊖ b.bottom))) Nowhere)
+          → InArea columns rows (cond t (Some (truncated_of (x ⊖ b.left) columns (b.right ⊖ b.left), truncated_of (b.top ⊖ y) rows (b.top ⊖ b.bottom))) None)
       go false h = tt
       go true h =
           let i = inside b x y h in (
@@ -340,5 +334,5 @@ module _ (b : Bounds) (columns rows : ℕ) (d : InDomain b) (some-columns : 1 �
             falling_inside b.bottom y b.top rows d.bottom d.top i.bottom i.top some-rows (le_trans few-rows (lit≤ tt)),
           )
 
-  pub label_inside : (x y : Float) (c r : ℕ) → label_place b columns rows x y ≡ At c r → (c < columns) × (r < rows)
-  label_inside x y c r e = subst (λ (p : Found). InArea columns rows p) e (place_inside x y)
+  pub label_inside : (x y : Float) (c r : ℕ) → label_place b columns rows x y ≡ Some (c, r) → (c < columns) × (r < rows)
+  label_inside x y c r e = subst (λ (p : Option (ℕ × ℕ)). InArea columns rows p) e (place_inside x y)

@@ -1,5 +1,5 @@
 -- What the test of a view says of it, and that inside the bounds of such a view both sums with a half are numbers from 1/4 to 400: so `dot_inside` tests neither end, and finds no NaN.
-use Rattle.std.proofs.Common.{◌≡◌, ℕ, ◌-◌, ◌^◌, ◌<◌, ◌≤◌, Bool, true, false, not, ◌&&◌, T, leb, sym, ◌∙◌, subst, arith, leb-true}
+use Rattle.std.proofs.Common.{◌≡◌, ℕ, ◌-◌, ◌^◌, ◌<◌, ◌≤◌, Option, Some, Bool, true, false, not, ◌&&◌, T, leb, sym, ◌∙◌, subst, arith, leb-true}
 use lib.Ieee.{Float, is_nan, eq, lt, to_unsigned}
 use borrow.Author.Tests.{not-true}
 use Rattle.floats.specs.Arithmetic.{◌⊕◌, ◌⊖◌, ◌⊗◌, ◌⊘◌}
@@ -14,16 +14,10 @@ use Rattle.walk.specs.declared.clip.Bounds.{Bounds}
 use Rattle.view.specs.Point.{outside_bounds, flat_bounds, inside_bounds, scaled_of, point_of, frame_of, regular_view}
 use Rattle.view.specs.declared.point.View.{View}
 use Rattle.view.specs.declared.point.Frame.{Frame}
-use Rattle.view.specs.declared.point.Found.TheVariants.{At}
 use Rattle.view.proofs.ClampIdle.{InDomain, Inside, quotient_of, inside, column_fits, row_fits, clamp-idle-x, clamp-idle-y, column-from, row_from}
 use Rattle.view.proofs.ClampIdle.HalfMore.{FromMinusQuarter, sum-from-quarter, sum_number}
 
 -- ---- the test
-pub regular-test : (v : View) {left right bottom top flat : Bool} → left ≡ in_domain v.bounds.left → right ≡ in_domain v.bounds.right → bottom ≡ in_domain v.bounds.bottom → top ≡ in_domain v.bounds.top → flat ≡ flat_bounds v.bounds
-    → ((left && right) && (bottom && top)) && (not flat && ((leb 1 v.width && leb v.width 400) && (leb 1 v.height && leb v.height 400))) ≡ regular_view v
-unfolding regular_view
-regular-test v l r b t f = rw (l, r, b, t, f)
-
 pub record Regular (v : View) : Type 0 where
   pub domain : InDomain v.bounds
   pub wide : flat_bounds v.bounds ≡ false
@@ -86,7 +80,7 @@ sum q dots h l some few =
 record Sums (v : View) (x y : Float) : Type 0 where
   column : Sum (quotient_of (x ⊖ v.bounds.left) v.width (v.bounds.right ⊖ v.bounds.left)) (scaled_of (x ⊖ v.bounds.left) v.width (v.bounds.right ⊖ v.bounds.left))
   row : Sum (quotient_of (v.bounds.top ⊖ y) v.height (v.bounds.top ⊖ v.bounds.bottom)) (scaled_of (v.bounds.top ⊖ y) v.height (v.bounds.top ⊖ v.bounds.bottom))
-  is_at : point_of v x y ≡ At (scaled_of (x ⊖ v.bounds.left) v.width (v.bounds.right ⊖ v.bounds.left)) (scaled_of (v.bounds.top ⊖ y) v.height (v.bounds.top ⊖ v.bounds.bottom))
+  is_at : point_of v x y ≡ Some (scaled_of (x ⊖ v.bounds.left) v.width (v.bounds.right ⊖ v.bounds.left), scaled_of (v.bounds.top ⊖ y) v.height (v.bounds.top ⊖ v.bounds.bottom))
 
 not-outside : (b : Bounds) (x y : Float) → Inside b x y → outside_bounds b x y ≡ false
 unfolding outside_bounds
@@ -123,7 +117,7 @@ no_nan x y t = (equal_no_nan x (and-true-left (eq x x) (eq y y) t), equal_no_nan
 
 module _ (f : Frame) (x y : Float) where
   pub dot-found : {column row : ℕ} → Whole column (across f x) → Whole row (downwards f y)
-      → (v : View) → f ≡ frame_of v → regular_view v ≡ true → inside_bounds v.bounds x y ≡ true → point_of v x y ≡ At column row
+      → (v : View) → f ≡ frame_of v → regular_view v ≡ true → inside_bounds v.bounds x y ≡ true → point_of v x y ≡ Some (column, row)
   unfolding frame_of
   dot-found {column} {row} c r v e g h =
       let s = sums v x y g h in
@@ -131,11 +125,11 @@ module _ (f : Frame) (x y : Float) where
       let r' : Whole row (downwards (frame_of v) y) = subst (λ (k : Frame). Whole row (downwards k y)) e r in
       s.is_at ∙ sym (at (c' s.column.from s.column.few ∙ s.column.whole) (r' s.row.from s.row.few ∙ s.row.whole))
     where
-      at : {i j k l : ℕ} → i ≡ k → j ≡ l → At i j ≡ At k l
+      at : {i j k l : ℕ} → i ≡ k → j ≡ l → ◌≡◌ {A = Option (ℕ × ℕ)} (Some (i, j)) (Some (k, l))
       at d g = rw (d, g)
 
   pub dot-numbers : {column row : ℕ} → eq (across f x) (across f x) && eq (downwards f y) (downwards f y) ≡ false
-      → (v : View) → f ≡ frame_of v → regular_view v ≡ true → inside_bounds v.bounds x y ≡ true → point_of v x y ≡ At column row
+      → (v : View) → f ≡ frame_of v → regular_view v ≡ true → inside_bounds v.bounds x y ≡ true → point_of v x y ≡ Some (column, row)
   unfolding frame_of
   dot-numbers t v e g h =
       let s = sums v x y g h in

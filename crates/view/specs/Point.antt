@@ -1,5 +1,5 @@
 -- Document 01, 'From bounds to a dot', and a label's place ('Layers, labels, render').
-use Rattle.std.specs.Prelude.{ℕ, ◌-◌, min, Bool, cond, not, ◌&&◌, ◌||◌, pos, nat_le, Float}
+use Rattle.std.specs.Prelude.{ℕ, ◌-◌, min, Bool, cond, not, ◌&&◌, ◌||◌, pos, nat_le, Float, Option, Some, None}
 use Rattle.std.specs.Float.{binary64}
 use Rattle.std.specs.Float.Ieee.{lt, le, of_int}
 use Rattle.floats.specs.Arithmetic.{◌⊖◌, ◌⊗◌, ◌⊘◌, bits}
@@ -8,11 +8,10 @@ use Rattle.floats.specs.Methods.{abs_of}
 use Rattle.floats.specs.Polyfills.{round_of, 1·0}
 use Rattle.floats.specs.Domain.{in_domain}
 use Rattle.walk.specs.declared.clip.Bounds.{Bounds}
+use Rattle.grids.specs.declared.markers.Marker.{Marker}
 use Rattle.grids.specs.Markers.{resolution_of}
 use Rattle.view.specs.declared.point.View.{View}
 use Rattle.view.specs.declared.point.Frame.{Frame}
-use Rattle.view.specs.declared.point.Found.{Found}
-use Rattle.view.specs.declared.point.Found.TheVariants.{At, Nowhere}
 
 abbrev pub whole : ℕ → Float
 whole n = of_int binary64 (pos n)
@@ -29,10 +28,10 @@ flat_bounds b = le (b.right ⊖ b.left) (bits 0) || le (b.top ⊖ b.bottom) (bit
 unfoldable pub scaled_of : Float → ℕ → Float → ℕ
 scaled_of distance dots width = min (as_unsigned 64 (round_of (distance ⊗ (whole dots ⊖ 1·0) ⊘ width))) (dots - 1)
 
-unfoldable pub point_of : View → Float → Float → Found
+unfoldable pub point_of : View → Float → Float → Option (ℕ × ℕ)
 point_of v x y =
-    cond (outside_bounds v.bounds x y || flat_bounds v.bounds) Nowhere
-    (At (scaled_of (x ⊖ v.bounds.left) v.width (v.bounds.right ⊖ v.bounds.left)) (scaled_of (v.bounds.top ⊖ y) v.height (v.bounds.top ⊖ v.bounds.bottom)))
+    cond (outside_bounds v.bounds x y || flat_bounds v.bounds) None
+    (Some (scaled_of (x ⊖ v.bounds.left) v.width (v.bounds.right ⊖ v.bounds.left), scaled_of (v.bounds.top ⊖ y) v.height (v.bounds.top ⊖ v.bounds.bottom)))
 
 -- the same by a frame, which has the parts of the formula that no point changes
 unfoldable pub frame_of : View → Frame
@@ -48,10 +47,10 @@ frame_of v = record {
 unfoldable pub scaled_by : Float → Float → ℕ → Float → ℕ
 scaled_by distance steps dots width = min (as_unsigned 64 (round_of (distance ⊗ steps ⊘ width))) (dots - 1)
 
-unfoldable pub spot_of : Frame → Float → Float → Found
+unfoldable pub spot_of : Frame → Float → Float → Option (ℕ × ℕ)
 spot_of f x y =
-    cond (outside_bounds f.view.bounds x y || f.flat) Nowhere
-    (At (scaled_by (x ⊖ f.view.bounds.left) f.across f.view.width f.width) (scaled_by (f.view.bounds.top ⊖ y) f.down f.view.height f.height))
+    cond (outside_bounds f.view.bounds x y || f.flat) None
+    (Some (scaled_by (x ⊖ f.view.bounds.left) f.across f.view.width f.width, scaled_by (f.view.bounds.top ⊖ y) f.down f.view.height f.height))
 
 -- 'A label within the inclusive bounds goes to truncated (not rounded) columns and rows, by the formula in `render`':
 -- `((label.x - left) * resolution.0 / width) as u16`, with width `(x_bounds[1] - x_bounds[0]).abs()` and resolution.0 `f64::from(canvas_area.width - 1)`
@@ -63,12 +62,12 @@ unfoldable pub inside_bounds : Bounds → Float → Float → Bool
 inside_bounds b x y = ((le b.left x && le x b.right) && le y b.top) && le b.bottom y
 
 -- the cell of a label's first byte in an area of columns by rows
-unfoldable pub label_place : Bounds → ℕ → ℕ → Float → Float → Found
+unfoldable pub label_place : Bounds → ℕ → ℕ → Float → Float → Option (ℕ × ℕ)
 label_place b columns rows x y =
-    cond (inside_bounds b x y) (At (truncated_of (x ⊖ b.left) columns (b.right ⊖ b.left)) (truncated_of (b.top ⊖ y) rows (b.top ⊖ b.bottom))) Nowhere
+    cond (inside_bounds b x y) (Some (truncated_of (x ⊖ b.left) columns (b.right ⊖ b.left), truncated_of (b.top ⊖ y) rows (b.top ⊖ b.bottom))) None
 
 -- the view of a canvas: its bounds, and its resolution in dots
-abbrev pub view_of : Bounds → ℕ → ℕ → ℕ → View
+abbrev pub view_of : Bounds → ℕ → ℕ → Marker → View
 view_of bounds columns rows marker = record { bounds = bounds; width = (resolution_of marker columns rows).columns; height = (resolution_of marker columns rows).rows }
 
 -- a view on which the clamp to resolution - 1 never acts: bounds in the domain that have a width and a height, and 1 to 400 dots each way

@@ -1,5 +1,5 @@
 // From bounds to a dot (Painter::get_point) and to a label's first cell (Canvas::render).
-ghost use Rattle.std.specs.Prelude.{◌≡◌, ◌-◌, ◌<◌, ◌≤◌, true, false, not, T, pos, is_nan};
+ghost use Rattle.std.specs.Prelude.{◌≡◌, ◌-◌, ◌<◌, ◌≤◌, true, false, not, T, pos, is_nan, Some};
 ghost use Rattle.std.specs.Float.{fin};
 ghost use Rattle.std.specs.Float.Ieee.{le, lt, to_unsigned};
 ghost use Rattle.floats.specs.Polyfills.{0·25};
@@ -10,7 +10,7 @@ use floats::casts::{as_u16, as_u64};
 use floats::domain::in_domain;
 use floats::methods::abs;
 use floats::polyfills::round;
-use grids::markers::resolution;
+use grids::markers::{Marker, resolution};
 use walk::bresenham::Dot;
 use walk::clip::Bounds;
 
@@ -22,31 +22,27 @@ pub struct View {
     pub height: u16,
 }
 
-// A column and a row, or nowhere.
-#[derive(Clone, Copy)]
-pub enum Found {
-    At(u16, u16),
-    Nowhere,
-}
-
 // The view of a canvas of at most 200 by 100 cells with this marker.
-pub fn view_of(bounds: Bounds, columns: u16, rows: u16, marker: u8) -> View
+pub fn view_of(bounds: Bounds, columns: u16, rows: u16, marker: Marker) -> View
     ensures { columns ≤ max_columns → rows ≤ max_rows → result ≡ view_of bounds columns rows marker }
 {
     let dots = resolution(marker, columns, rows);
     View {
         bounds,
-        width: (dots.columns % 65536) as u16,
-        height: (dots.rows % 65536) as u16,
+        width: u16::try_from(dots.columns).unwrap_or(u16::MAX),
+        height: u16::try_from(dots.rows).unwrap_or(u16::MAX),
     }
 }
 
+// Apart from the same test of an end in walk, whose clause speaks of the sides by which a line is cut.
+#[tactic(auto, unfolding(crate::specs::Point::outside_bounds))]
 fn is_outside(b: Bounds, x: f64, y: f64) -> bool
     ensures { result ≡ outside_bounds b x y }
 {
     (x < b.left) | (x > b.right) | (y < b.bottom) | (y > b.top)
 }
 
+#[tactic(auto, unfolding(crate::specs::Point::flat_bounds))]
 fn is_flat(b: Bounds) -> bool
     ensures { result ≡ flat_bounds b }
 {
@@ -61,15 +57,9 @@ pub fn is_regular(v: View) -> bool
     let across = in_domain(b.left) & in_domain(b.right);
     let down = in_domain(b.bottom) & in_domain(b.top);
     let flat = is_flat(b);
-    let columns = (v.width >= 1) & (v.width <= 400);
-    let rows = (v.height >= 1) & (v.height <= 400);
+    let columns = (1..=400).contains(&v.width);
+    let rows = (1..=400).contains(&v.height);
     (across & down) & (!flat & (columns & rows))
-}
-
-fn less_one(n: u16) -> u16
-    ensures { result ≡ n - 1 }
-{
-    if n == 0 { 0 } else { n - 1 }
 }
 
 // A view as a draw uses it for each of its points: what no point changes, computed once.
@@ -83,6 +73,7 @@ pub struct Frame {
     pub flat: bool, // whether width or height is at most 0
 }
 
+#[tactic(auto, unfolding(crate::specs::Point::frame_of))]
 pub fn frame_of(v: View) -> Frame
     ensures { result ≡ frame_of v }
 {
@@ -92,8 +83,8 @@ pub fn frame_of(v: View) -> Frame
         view: v,
         width: b.right - b.left,
         height: b.top - b.bottom,
-        across: v.width as f64 - 1.0,
-        down: v.height as f64 - 1.0,
+        across: f64::from(v.width) - 1.0,
+        down: f64::from(v.height) - 1.0,
         flat,
     }
 }
@@ -119,67 +110,69 @@ fn scaled(distance: f64, steps: f64, dots: u16, width: f64) -> u16
 {
     let sum = distance * steps / width + 0.5;
     if sum >= 1.0 {
-        if sum < dots as f64 {
+        if sum < f64::from(dots) {
             return whole_part(sum) as u16;
         }
-        return less_one(dots);
+        return dots.saturating_sub(1);
     }
     0
 }
 
 // The dot of a point that is known not to be outside the bounds, which are not tested: none where these
 // have no width or height.
-pub fn spot_inside(f: Frame, x: f64, y: f64) -> Found
+#[tactic(auto, unfolding(crate::specs::Point::spot_of))]
+pub fn spot_inside(f: Frame, x: f64, y: f64) -> Option<(u16, u16)>
     ensures { outside_bounds f.view.bounds x y ≡ false → result ≡ spot_of f x y }
 {
     if f.flat {
-        return Found::Nowhere;
+        return None;
     }
     let v = f.view;
     let b = v.bounds;
     let column = scaled(x - b.left, f.across, v.width, f.width);
     let row = scaled(b.top - y, f.down, v.height, f.height);
-    Found::At(column, row)
+    Some((column, row))
 }
 
 // The dot of a point: none outside the bounds either.
-pub fn spot(f: Frame, x: f64, y: f64) -> Found
+#[tactic(auto, unfolding(crate::specs::Point::spot_of))]
+pub fn spot(f: Frame, x: f64, y: f64) -> Option<(u16, u16)>
     ensures { result ≡ spot_of f x y }
 {
     let v = f.view;
     if is_outside(v.bounds, x, y) {
-        return Found::Nowhere;
+        return None;
     }
     spot_inside(f, x, y)
 }
 
-// `((distance) * (resolution - 1.0) / width).round() as usize`, at most resolution - 1.
+// `((distance) * (resolution - 1.0) / width).round() as usize`, at most resolution - 1. Apart from
+// `scaled`, since document 01 wants the operations of the Rust here.
+#[tactic(auto, unfolding(crate::specs::Point::scaled_of))]
 fn rounded(distance: f64, dots: u16, width: f64) -> u16
     ensures { result ≡ scaled_of distance dots width }
 {
-    let n = as_u64(round(distance * (dots as f64 - 1.0) / width));
-    let most = less_one(dots);
-    if n < most as u64 {
-        return n as u16;
-    }
-    most
+    let n = as_u64(round(distance * (f64::from(dots) - 1.0) / width));
+    n.min(u64::from(dots.saturating_sub(1))) as u16
 }
 
 // The dot of a point by itself: the formula of get_point as the Rust has it. Painters use a frame.
-pub fn point(v: View, x: f64, y: f64) -> Found
+#[tactic(auto, unfolding(crate::specs::Point::point_of))]
+pub fn point(v: View, x: f64, y: f64) -> Option<(u16, u16)>
     ensures { result ≡ point_of v x y }
 {
     let b = v.bounds;
     if is_outside(b, x, y) | is_flat(b) {
-        return Found::Nowhere;
+        return None;
     }
     let column = rounded(x - b.left, v.width, b.right - b.left);
     let row = rounded(b.top - y, v.height, b.top - b.bottom);
-    Found::At(column, row)
+    Some((column, row))
 }
 
 // The whole part of a float from 0.25 on that is below 2^16, of which neither end is tested: below 1 the
-// shift is by 53 or 54, which leaves 0. Other floats give some number.
+// shift is by 53 or 54, which leaves 0. Other floats give some number. Apart from `whole_part`, whose
+// shift would there be 64 or more.
 fn whole_inside(x: f64) -> u16
     requires { T (not (is_nan x)) }
     ensures { lt x 0·25 ≡ false → to_unsigned 64 x < 65536 → result ≡ to_unsigned 64 x }
@@ -187,28 +180,30 @@ fn whole_inside(x: f64) -> u16
     let bits = f64::to_bits(x);
     let exponent = bits >> 52;
     let digits = (bits & 0xf_ffff_ffff_ffff) | 0x10_0000_0000_0000;
-    let n = digits >> (std::num::wrapping_sub_u64(1075, exponent) % 64);
+    let n = digits >> (1075u64.wrapping_sub(exponent) % 64);
     (n % 65536) as u16
 }
 
 // The dot of a point inside the bounds of a regular view, by its frame. Nothing is tested but that the
 // sums are no NaN, whose bits may not be read: one comparison for both, which inside the bounds holds.
 pub fn dot_inside(f: Frame, x: f64, y: f64) -> Dot
-    ensures { (v : View) → f ≡ frame_of v → regular_view v ≡ true → inside_bounds v.bounds x y ≡ true → point_of v x y ≡ Found.At result.column result.row }
+    ensures { (v : View) → f ≡ frame_of v → regular_view v ≡ true → inside_bounds v.bounds x y ≡ true → point_of v x y ≡ Some (result.column, result.row) }
 {
     let v = f.view;
     let b = v.bounds;
     let across = (x - b.left) * f.across / f.width + 0.5;
     let down = (b.top - y) * f.down / f.height + 0.5;
     if (across == across) & (down == down) {
-        let column = whole_inside(across) as u32;
-        let row = whole_inside(down) as u32;
-        return Dot { column, row };
+        return Dot {
+            column: u32::from(whole_inside(across)),
+            row: u32::from(whole_inside(down)),
+        };
     }
     Dot { column: 0, row: 0 }
 }
 
 // Whether a point is inside the inclusive bounds, which one with a NaN is not.
+#[tactic(auto, unfolding(crate::specs::Point::inside_bounds))]
 pub fn is_inside(b: Bounds, x: f64, y: f64) -> bool
     ensures { result ≡ inside_bounds b x y }
 {
@@ -216,21 +211,22 @@ pub fn is_inside(b: Bounds, x: f64, y: f64) -> bool
 }
 
 // `(distance * (cells - 1) / width.abs()) as u16`.
+#[tactic(auto, unfolding(crate::specs::Point::truncated_of))]
 fn truncated(distance: f64, cells: u16, width: f64) -> u16
     ensures { result ≡ truncated_of distance cells width }
 {
-    let most = less_one(cells);
-    as_u16(distance * (most as f64) / abs(width))
+    as_u16(distance * f64::from(cells.saturating_sub(1)) / abs(width))
 }
 
 // The cell of a label's first byte: none outside the bounds. Truncated, not rounded.
-pub fn label_place(b: Bounds, columns: u16, rows: u16, x: f64, y: f64) -> Found
+#[tactic(auto, unfolding(crate::specs::Point::label_place))]
+pub fn label_place(b: Bounds, columns: u16, rows: u16, x: f64, y: f64) -> Option<(u16, u16)>
     ensures { result ≡ label_place b columns rows x y }
 {
     if is_inside(b, x, y) {
         let column = truncated(x - b.left, columns, b.right - b.left);
         let row = truncated(b.top - y, rows, b.top - b.bottom);
-        return Found::At(column, row);
+        return Some((column, row));
     }
-    Found::Nowhere
+    None
 }

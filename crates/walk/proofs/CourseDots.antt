@@ -1,5 +1,5 @@
 -- The course from `new` gives the dots of the closed formula: each direction is its start and k moves, modulo 2 ^ 64. One of the two goes a whole dot a move.
-use Rattle.std.proofs.Common.{◌≡◌, ℕ, zero, suc, ◌+◌, ◌-◌, ◌*◌, ◌/◌, ◌%◌, ◌^◌, ◌<◌, ◌≤◌, max, Bool, true, false, cond, ltb, sym, refl, ap, ◌∙◌, subst, add-one, arith, ltb-false, ltb-true, le-ltb}
+use Rattle.std.proofs.Common.{◌≡◌, ℕ, zero, suc, ◌+◌, ◌-◌, ◌*◌, ◌/◌, ◌%◌, ◌^◌, ◌<◌, ◌≤◌, max, Bool, true, false, cond, ltb, sym, refl, ap, ◌∙◌, subst, arith, ltb-false, ltb-true, le-ltb}
 use native.Mathlib.Nat.{mod-add-mod}
 use Rattle.walk.specs.declared.bresenham.Ends.{Ends}
 use Rattle.walk.specs.declared.bresenham.Dot.{Dot}
@@ -150,10 +150,7 @@ courses-line e f = (
       ∙ tabulate-same (dot_count e) (λ k. course_dot (course_after k (course_of e))) (dot_after (from_start e)) (λ k h. course-dot e f k (below k (max (dx e) (dy e)) h)),
 )
 
--- ---- for a loop over a course: one step more, a dot on the way, the way of whole dots, and the whole line
-pub next-course : (c₀ c after : Course) (k : ℕ) → c ≡ course_after k c₀ → after ≡ next_course c → after ≡ course_after (k + 1) c₀
-next-course c₀ c after k e s = rw (add-one, s, e)
-
+-- ---- for a loop over a course: a dot on the way, the way of whole dots, and the whole line
 pub course-within : (e : Ends) → Fits16 e → (c₀ : Course) (k : ℕ) → c₀ ≡ course_of e → k < c₀.count → Within e (course_dot (course_after k c₀))
 course-within e f c₀ k w h =
     let on = below k (max (dx e) (dy e)) (rw (w, course-count e) at h) in

@@ -4,6 +4,7 @@ pub mod Decision
 pub mod Offset
 pub mod WalkMade
 pub mod Tabulated
+pub mod DotsAlong
 pub mod ClosedFormula
 pub mod LineDots
 pub mod FixedPoint

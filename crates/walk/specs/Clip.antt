@@ -1,5 +1,5 @@
 -- Document 01, 'Clipping (stand-in)', sentence by sentence.
-use Rattle.std.specs.Prelude.{ℕ, zero, suc, ◌+◌, Bool, cond, not, ◌&&◌, ◌||◌, Float}
+use Rattle.std.specs.Prelude.{ℕ, zero, suc, ◌+◌, Bool, cond, not, ◌&&◌, ◌||◌, Float, Some, None}
 use Rattle.std.specs.Float.Ieee.{lt}
 use Rattle.floats.specs.Arithmetic.{◌⊕◌, ◌⊖◌, ◌⊗◌, ◌⊘◌}
 use Rattle.walk.specs.declared.clip.Bounds.{Bounds}
@@ -7,7 +7,6 @@ use Rattle.walk.specs.declared.clip.Segment.{Segment}
 use Rattle.walk.specs.declared.clip.Sides.{Sides}
 use Rattle.walk.specs.declared.clip.Point.{Point}
 use Rattle.walk.specs.declared.clip.Clipped.{Clipped}
-use Rattle.walk.specs.declared.clip.Clipped.TheVariants.{Line, NoLine}
 
 -- 'An end's sides: left if x is below xmin, else right if above xmax; bottom if y is below ymin, else top if above ymax.'
 unfoldable pub sides_of : Bounds → Float → Float → Sides
@@ -55,19 +54,22 @@ with_second s p = record { x1 = s.x1; y1 = s.y1; x2 = p.x; y2 = p.y }
 unfoldable pub cut_of : Bounds → Segment → Sides → Sides → Segment
 cut_of b s first second = cond (outside first) (with_first s (cut_point b s first)) (with_second s (cut_point b s second))
 
+-- what is accepted, and no line, after n cuts
+abbrev pub accepted : Segment → ℕ → Clipped
+accepted s n = record { line = Some s; cuts = n }
+
+abbrev pub no_line : ℕ → Clipped
+no_line n = record { line = None; cuts = n }
+
 -- 'Repeat: no sides at either end, accept; a side in common, no line; eight cuts made, no line; else cut': with `left` of the eight still to make and n made
 abbrev pub judged : Bounds → Segment → ℕ → Clipped → Clipped
 judged b s n else =
-    cond (not (outside (first_sides b s) || outside (second_sides b s))) (Line s n) (cond (common (first_sides b s) (second_sides b s)) (NoLine n) else)
+    cond (not (outside (first_sides b s) || outside (second_sides b s))) (accepted s n) (cond (common (first_sides b s) (second_sides b s)) (no_line n) else)
 
 unfoldable pub clip_from : ℕ → ℕ → Bounds → Segment → Clipped
-clip_from zero n b s = judged b s n (NoLine n)
+clip_from zero n b s = judged b s n (no_line n)
 clip_from (suc left) n b s = judged b s n (clip_from left (n + 1) b (cut_of b s (first_sides b s) (second_sides b s)))
 
+-- 'The answer carries the number of cuts'
 abbrev pub clip_of : Bounds → Segment → Clipped
 clip_of b s = clip_from 8 0 b s
-
--- 'The answer carries the number of cuts'
-abbrev pub cuts_of : Clipped → ℕ
-cuts_of (Line s n) = n
-cuts_of (NoLine n) = n

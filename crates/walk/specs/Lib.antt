@@ -4,3 +4,4 @@ pub mod Tabulate
 pub mod Line
 pub mod Walk
 pub mod Course
+pub mod Along

@@ -1,9 +1,11 @@
 // The walk along a line from dot to dot: for_each_line_point of src/canvas/line.rs, as a value that
 // gives its dots one after the other.
-ghost use Rattle.std.specs.Prelude.{◌≡◌, ◌^◌, ◌<◌, pos, ◌+ℤ◌, ◌-ℤ◌, int_lt};
+ghost use Rattle.std.specs.Prelude.{◌≡◌, ◌^◌, ◌<◌, pos, int_lt};
 ghost use Rattle.std.specs.Int.Signed.{mag};
-ghost use Rattle.walk.specs.Line.{apart, starts_second, from_start};
+ghost use Rattle.walk.specs.Line.{starts_second, from_start};
 ghost use Rattle.walk.specs.Walk.{first_decision, walk_of, count_of, moved, dot_of, next_decision, next_offset, small, step_of};
+
+use crate::route::Route;
 
 // The two ends of a line, in dots.
 #[derive(Clone, Copy)]
@@ -36,66 +38,37 @@ pub struct Walk {
     pub d: i64,
 }
 
-pub(crate) fn abs_diff(a: u16, b: u16) -> u16
-    ensures { result ≡ apart a b }
-{
-    if a < b { b - a } else { a - b }
-}
-
 // Whether the walk starts at the second end.
+#[tactic(auto, unfolding(crate::specs::Line::starts_second))]
 fn starts_second(e: Ends) -> bool
     ensures { result ≡ starts_second e }
 {
-    let dx = abs_diff(e.x1, e.x2);
-    let dy = abs_diff(e.y1, e.y2);
-    if dy < dx {
-        return e.x2 < e.x1;
-    }
-    e.y2 < e.y1
+    let dx = e.x1.abs_diff(e.x2);
+    let dy = e.y1.abs_diff(e.y2);
+    if dy < dx { e.x2 < e.x1 } else { e.y2 < e.y1 }
 }
 
 // The line with the end where its walk starts first.
+#[tactic(auto, unfolding(crate::specs::Line::from_start))]
 pub(crate) fn from_start(e: Ends) -> Ends
     ensures { result ≡ from_start e }
 {
     if starts_second(e) {
-        return Ends {
+        Ends {
             x1: e.x2,
             y1: e.y2,
             x2: e.x1,
             y2: e.y1,
-        };
+        }
+    } else {
+        e
     }
-    e
-}
-
-fn signed(n: u32) -> i64
-    ensures { result ≡ pos n }
-{
-    n as i64
-}
-
-// d + by, for a d that is far from an overflow.
-fn raised(d: i64, by: u32) -> i64
-    requires { mag d < 2 ^ 40 }
-    ensures { result ≡ d +ℤ pos by }
-{
-    d + (by as i64)
-}
-
-// d - by, for a d that is far from an overflow.
-fn lowered(d: i64, by: u32) -> i64
-    requires { mag d < 2 ^ 40 }
-    ensures { result ≡ d -ℤ pos by }
-{
-    d - (by as i64)
 }
 
 fn first_decision(long: u16, short: u16) -> i64
     ensures { result ≡ first_decision long short }
 {
-    let twice = signed(2 * (short as u32));
-    lowered(twice, long as u32)
+    i64::from(2 * u32::from(short)) - i64::from(long)
 }
 
 fn is_above_zero(d: i64) -> bool
@@ -109,22 +82,21 @@ fn next_decision(d: i64, long: u16, short: u16) -> i64
     requires { mag d < 2 ^ 20 }
     ensures { result ≡ next_decision long short d }
 {
+    let more = i64::from(2 * u32::from(short));
     if is_above_zero(d) {
-        let less = lowered(d, 2 * (long as u32));
-        return raised(less, 2 * (short as u32));
+        d - i64::from(2 * u32::from(long)) + more
+    } else {
+        d + more
     }
-    raised(d, 2 * (short as u32))
 }
 
 // The offset after a step.
+#[tactic(auto, unfolding(crate::specs::Walk::next_offset))]
 fn next_offset(d: i64, offset: u16) -> u16
     requires { offset < 65535 }
     ensures { result ≡ next_offset d offset }
 {
-    if is_above_zero(d) {
-        return offset + 1;
-    }
-    offset
+    if is_above_zero(d) { offset + 1 } else { offset }
 }
 
 // Whether d is far from an overflow. Of a walk from `new` it always is.
@@ -139,12 +111,10 @@ fn moved_by(back: bool, a: u16, o: u16) -> u32
     ensures { result ≡ moved back a o }
 {
     if back {
-        if a < o {
-            return 0;
-        }
-        return (a - o) as u32;
+        u32::from(a.saturating_sub(o))
+    } else {
+        u32::from(a) + u32::from(o)
     }
-    (a as u32) + (o as u32)
 }
 
 impl Walk {
@@ -153,82 +123,71 @@ impl Walk {
         ensures { result ≡ walk_of e }
     {
         let s = from_start(e);
-        let dx = abs_diff(s.x1, s.x2);
-        let dy = abs_diff(s.y1, s.y2);
-        if dy < dx {
-            let d = first_decision(dx, dy);
-            return Walk {
-                x: s.x1,
-                y: s.y1,
-                long: dx,
-                short: dy,
-                steep: false,
-                back: s.y2 < s.y1,
-                at: 0,
-                offset: 0,
-                d,
-            };
-        }
-        let d = first_decision(dy, dx);
+        let dx = s.x1.abs_diff(s.x2);
+        let dy = s.y1.abs_diff(s.y2);
+        let long = dx.max(dy);
+        let short = dx.min(dy);
+        let shallow = dy < dx;
+        let back = if shallow { s.y2 < s.y1 } else { s.x2 < s.x1 };
+        let d = first_decision(long, short);
         Walk {
             x: s.x1,
             y: s.y1,
-            long: dy,
-            short: dx,
-            steep: true,
-            back: s.x2 < s.x1,
+            long,
+            short,
+            steep: !shallow,
+            back,
             at: 0,
             offset: 0,
             d,
         }
     }
+}
+
+impl Route for Walk {
+    ghost count_of = { count_of };
+
+    ghost dot_of = { dot_of };
+
+    ghost next_of = { step_of };
 
     // How many dots the walk has.
-    pub fn count(self) -> u32
-        ensures { result ≡ count_of self }
-    {
-        (self.long as u32) + 1
+    fn count(self) -> u32 {
+        u32::from(self.long) + 1
     }
 
     // The dot that the walk is at.
-    pub fn dot(self) -> Dot
-        ensures { result ≡ dot_of self }
-    {
+    #[tactic(auto, unfolding(crate::specs::Walk::dot_of))]
+    fn dot(self) -> Dot {
+        let along = u32::from(self.at);
         if self.steep {
-            let column = moved_by(self.back, self.x, self.offset);
-            return Dot {
-                column,
-                row: (self.y as u32) + (self.at as u32),
-            };
-        }
-        let row = moved_by(self.back, self.y, self.offset);
-        Dot {
-            column: (self.x as u32) + (self.at as u32),
-            row,
+            Dot {
+                column: moved_by(self.back, self.x, self.offset),
+                row: u32::from(self.y) + along,
+            }
+        } else {
+            Dot {
+                column: u32::from(self.x) + along,
+                row: moved_by(self.back, self.y, self.offset),
+            }
         }
     }
 
     // The walk at its next dot; a walk at its end stays.
-    pub fn step(self) -> Walk
-        ensures { result ≡ step_of self }
-    {
+    fn step(self) -> Walk {
         let near = is_small(self.d);
         let go = near & (self.at < self.long) & (self.offset < 65535);
         if go {
             let offset = next_offset(self.d, self.offset);
             let d = next_decision(self.d, self.long, self.short);
-            return Walk {
+            Walk {
                 at: self.at + 1,
                 offset,
                 d,
                 ..self
-            };
-        }
-        Walk {
-            at: self.at,
-            offset: self.offset,
-            d: self.d,
-            ..self
+            }
+        } else {
+            self
         }
     }
 }

@@ -1,5 +1,6 @@
 // Clipping by the rule of document 01, 'Clipping (stand-in)', which is Cohen and Sutherland's.
 ghost use Rattle.std.specs.Prelude.{◌≡◌};
+ghost use Rattle.floats.specs.Arithmetic.{◌⊕◌, ◌⊖◌, ◌⊗◌, ◌⊘◌};
 ghost use Rattle.walk.specs.Clip.{sides_of, outside, common, on_vertical, on_horizontal, cut_point, cut_of, clip_of};
 
 // The bounds of a canvas, each included.
@@ -20,11 +21,11 @@ pub struct Segment {
     pub y2: f64,
 }
 
-// A line clipped to the bounds, or none; each with the number of cuts made.
+// The part of a line inside the bounds, if there is one, and the number of cuts made.
 #[derive(Clone, Copy)]
-pub enum Clipped {
-    Line(Segment, u32),
-    NoLine(u32),
+pub struct Clipped {
+    pub line: Option<Segment>,
+    pub cuts: u32,
 }
 
 #[derive(Clone, Copy)]
@@ -42,6 +43,7 @@ struct Point {
 }
 
 // The sides of the bounds beyond which a point lies.
+#[tactic(auto, unfolding(crate::specs::Clip::sides_of))]
 fn sides_of(b: Bounds, x: f64, y: f64) -> Sides
     ensures { result ≡ sides_of b x y }
 {
@@ -56,6 +58,7 @@ fn sides_of(b: Bounds, x: f64, y: f64) -> Sides
 }
 
 // Whether an end has a side.
+#[tactic(auto, unfolding(crate::specs::Clip::outside))]
 fn has_side(s: Sides) -> bool
     ensures { result ≡ outside s }
 {
@@ -63,67 +66,71 @@ fn has_side(s: Sides) -> bool
 }
 
 // Whether two ends have a side in common.
+#[tactic(auto, unfolding(crate::specs::Clip::common))]
 fn side_in_common(s: Sides, t: Sides) -> bool
     ensures { result ≡ common s t }
 {
     (s.left & t.left) | (s.right & t.right) | (s.bottom & t.bottom) | (s.top & t.top)
 }
 
+// How far up a line is at `to` across, or how far across at `to` up: multiplied before divided.
+fn met(from: f64, end: f64, across: f64, far: f64, to: f64) -> f64
+    ensures { result ≡ from ⊕ (end ⊖ from) ⊗ (to ⊖ across) ⊘ (far ⊖ across) }
+{
+    from + (end - from) * (to - across) / (far - across)
+}
+
 // Where the line meets the upright at x.
 fn on_vertical(s: Segment, x: f64) -> Point
     ensures { result ≡ on_vertical s x }
 {
-    Point {
-        x,
-        y: s.y1 + (s.y2 - s.y1) * (x - s.x1) / (s.x2 - s.x1),
-    }
+    let y = met(s.y1, s.y2, s.x1, s.x2, x);
+    Point { x, y }
 }
 
 // Where the line meets the level at y.
 fn on_horizontal(s: Segment, y: f64) -> Point
     ensures { result ≡ on_horizontal s y }
 {
-    Point {
-        x: s.x1 + (s.x2 - s.x1) * (y - s.y1) / (s.y2 - s.y1),
-        y,
-    }
+    let x = met(s.x1, s.x2, s.y1, s.y2, y);
+    Point { x, y }
 }
 
 // Where an end with these sides is cut: at its first side in the order left, right, bottom, top.
+#[tactic(auto, unfolding(crate::specs::Clip::cut_point))]
 fn cut_point(b: Bounds, s: Segment, end: Sides) -> Point
     ensures { result ≡ cut_point b s end }
 {
     if end.left {
-        return on_vertical(s, b.left);
+        on_vertical(s, b.left)
+    } else if end.right {
+        on_vertical(s, b.right)
+    } else if end.bottom {
+        on_horizontal(s, b.bottom)
+    } else {
+        on_horizontal(s, b.top)
     }
-    if end.right {
-        return on_vertical(s, b.right);
-    }
-    if end.bottom {
-        return on_horizontal(s, b.bottom);
-    }
-    on_horizontal(s, b.top)
 }
 
 // The line with its first end cut if that has a side, else with its second.
+#[tactic(auto, unfolding(crate::specs::Clip::cut_of))]
 fn cut(b: Bounds, s: Segment, first: Sides, second: Sides) -> Segment
     ensures { result ≡ cut_of b s first second }
 {
     if has_side(first) {
         let p = cut_point(b, s, first);
-        return Segment {
+        Segment {
             x1: p.x,
             y1: p.y,
-            x2: s.x2,
-            y2: s.y2,
-        };
-    }
-    let p = cut_point(b, s, second);
-    Segment {
-        x1: s.x1,
-        y1: s.y1,
-        x2: p.x,
-        y2: p.y,
+            ..s
+        }
+    } else {
+        let p = cut_point(b, s, second);
+        Segment {
+            x2: p.x,
+            y2: p.y,
+            ..s
+        }
     }
 }
 
@@ -132,22 +139,26 @@ fn clip_outside(b: Bounds, line: Segment) -> Clipped
     ensures { result ≡ clip_of b line }
 {
     let mut s = line;
-    let mut cuts: u32 = 0;
-    loop {
+    for cuts in 0..8 {
         let first = sides_of(b, s.x1, s.y1);
         let second = sides_of(b, s.x2, s.y2);
         let clipped = has_side(first) | has_side(second);
         if !clipped {
-            return Clipped::Line(s, cuts);
+            return Clipped {
+                line: Some(s),
+                cuts,
+            };
         }
         if side_in_common(first, second) {
-            return Clipped::NoLine(cuts);
-        }
-        if cuts == 8 {
-            return Clipped::NoLine(cuts);
+            return Clipped { line: None, cuts };
         }
         s = cut(b, s, first, second);
-        cuts += 1;
+    }
+    // eight cuts made
+    let clipped = is_outside(b, s.x1, s.y1) | is_outside(b, s.x2, s.y2);
+    Clipped {
+        line: if clipped { None } else { Some(s) },
+        cuts: 8,
     }
 }
 
@@ -166,7 +177,11 @@ pub fn clip_line(b: Bounds, line: Segment) -> Clipped
     let first = is_outside(b, line.x1, line.y1);
     let second = is_outside(b, line.x2, line.y2);
     if first | second {
-        return clip_outside(b, line);
+        clip_outside(b, line)
+    } else {
+        Clipped {
+            line: Some(line),
+            cuts: 0,
+        }
     }
-    Clipped::Line(line, 0)
 }

@@ -1,11 +1,11 @@
 // The dots of a line by fixed point: what a Walk gives, without its decision value, so that a step
 // is two sums and a dot two shifts. The Walk stays as document 01 speaks of it, 'The signed decision
 // value steps only above 0'; both are proved to give the dots of its closed formula.
-ghost use Rattle.std.specs.Prelude.{◌≡◌, max};
-ghost use Rattle.walk.specs.Line.{dx, dy};
+ghost use Rattle.std.specs.Prelude.{◌≡◌};
 ghost use Rattle.walk.specs.Course.{slope_of, place_of, move_of, course_of, course_dot, next_course};
 
-use crate::bresenham::{Dot, Ends, abs_diff, from_start};
+use crate::bresenham::{Dot, Ends, from_start};
+use crate::route::Route;
 
 // One dot: 2^48.
 pub const ONE: u64 = 281474976710656;
@@ -27,71 +27,67 @@ pub struct Course {
     pub down: u64,
 }
 
-// The longer difference.
-fn longer(e: Ends) -> u16
-    ensures { result ≡ max (dx e) (dy e) }
-{
-    let across = abs_diff(e.x1, e.x2);
-    let along = abs_diff(e.y1, e.y2);
-    if across < along { along } else { across }
-}
-
 // One of `long` steps that go `short` dots together.
+#[tactic(auto, unfolding(crate::specs::Course::slope_of))]
 fn slope(long: u16, short: u16) -> u64
     ensures { result ≡ slope_of long short }
 {
     if short < long {
-        return (short as u64) * ONE / (long as u64) + 1;
+        u64::from(short) * ONE / u64::from(long) + 1
+    } else {
+        ONE
     }
-    ONE
 }
 
 // Where a course from a toward b starts.
+#[tactic(auto, unfolding(crate::specs::Course::place_of))]
 fn place(a: u16, b: u16) -> u64
     ensures { result ≡ place_of a b }
 {
-    if b < a {
-        return (a as u64) * ONE + AFTER_MIDDLE;
-    }
-    (a as u64) * ONE + BEFORE_MIDDLE
+    let middle = if b < a { AFTER_MIDDLE } else { BEFORE_MIDDLE };
+    u64::from(a) * ONE + middle
 }
 
 // What a step from a toward b adds.
 fn moves(long: u16, a: u16, b: u16) -> u64
     ensures { result ≡ move_of long a b }
 {
-    let short = abs_diff(a, b);
-    let by = slope(long, short);
-    if b < a {
-        return u64::MAX - by + 1;
-    }
-    by
+    let by = slope(long, a.abs_diff(b));
+    if b < a { by.wrapping_neg() } else { by }
 }
 
 impl Course {
     // The course between two ends, at its first dot.
+    #[tactic(auto, unfolding(crate::specs::Course::course_of))]
     pub fn new(e: Ends) -> Course
         ensures { result ≡ course_of e }
     {
         let s = from_start(e);
-        let long = longer(s);
-        let column = place(s.x1, s.x2);
-        let row = place(s.y1, s.y2);
-        let right = moves(long, s.x1, s.x2);
-        let down = moves(long, s.y1, s.y2);
+        let long = s.x1.abs_diff(s.x2).max(s.y1.abs_diff(s.y2));
         Course {
-            count: (long as u32) + 1,
-            column,
-            row,
-            right,
-            down,
+            count: u32::from(long) + 1,
+            column: place(s.x1, s.x2),
+            row: place(s.y1, s.y2),
+            right: moves(long, s.x1, s.x2),
+            down: moves(long, s.y1, s.y2),
         }
+    }
+}
+
+impl Route for Course {
+    ghost count_of = { λ c. c.count };
+
+    ghost dot_of = { course_dot };
+
+    ghost next_of = { next_course };
+
+    // How many dots the course has from its first.
+    fn count(self) -> u32 {
+        self.count
     }
 
     // The dot that the course is at.
-    pub fn dot(self) -> Dot
-        ensures { result ≡ course_dot self }
-    {
+    fn dot(self) -> Dot {
         Dot {
             column: (self.column / ONE) as u32,
             row: (self.row / ONE) as u32,
@@ -99,14 +95,10 @@ impl Course {
     }
 
     // The course at its next dot.
-    pub fn step(self) -> Course
-        ensures { result ≡ next_course self }
-    {
-        let column = std::num::wrapping_add_u64(self.column, self.right);
-        let row = std::num::wrapping_add_u64(self.row, self.down);
+    fn step(self) -> Course {
         Course {
-            column,
-            row,
+            column: self.column.wrapping_add(self.right),
+            row: self.row.wrapping_add(self.down),
             ..self
         }
     }

@@ -6,3 +6,4 @@
 pub mod bresenham; // bresenham.rt: the walk along a line, dot by dot
 pub mod clip; // clip.rt: the part of a line inside the bounds
 pub mod course; // course.rt: the dots of a walk by fixed point
+pub mod route; // route.rt: what both ways from dot to dot have in common, and their dots as an iterator

@@ -14,8 +14,7 @@ use Rattle.ledger.specs.Ledger.{Reply, refused, done, opened, unless, reply_unle
 use Rattle.ledger.specs.Model.{State, open_canvas, open_cells, opened_canvas, zero_canvas, refusal_on, accepted_on, state_after, reply_after, replies}
 use Rattle.ledger.specs.Outcomes.{given, accepted_answer, answer_unless, answer_on, reply_of, screen_left}
 use Rattle.ledger.specs.declared.state.Canvas.{Canvas}
-use Rattle.ledger.specs.declared.state.Answer.{Answer}
-use Rattle.ledger.specs.declared.state.Answer.TheVariants.{Refused, Painted, Done, Rendered}
+use Rattle.ledger.specs.Answer.{Answer, Refused, Painted, Done, Rendered}
 use Rattle.ledger.specs.declared.screen.ScreenCell.{ScreenCell}
 use Rattle.ledger.proofs.Promise.{promise}
 use Rattle.words.specs.Words.{short_words, canvas_of, bits_of, kept_words, all_words, changed_words, cleared_words, fixed_words, words_after, painted_after}

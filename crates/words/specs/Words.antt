@@ -1,13 +1,13 @@
 -- A canvas as a lent list of 64-bit words, a word a field, the bounds as their bits. Every list means a canvas.
-use Rattle.std.specs.Prelude.{ℕ, ◌%◌, ◌^◌, Bool, cond, List, eqb, ltb, Float, length, get_or, set}
+use Rattle.std.specs.Prelude.{ℕ, ◌%◌, ◌^◌, Bool, cond, List, eqb, ltb, Float, length, get_or, set, Result, Ok, Err}
 use Rattle.std.specs.Float.{binary64}
 use Rattle.std.specs.Float.Ieee.{to_bits}
 use Rattle.floats.specs.Arithmetic.{bits}
 use Rattle.walk.specs.declared.clip.Bounds.{Bounds}
+use Rattle.refusals.specs.declared.refusal.Refusal.{Refusal}
 use Rattle.ledger.specs.Model.{zero_canvas}
 use Rattle.ledger.specs.declared.state.Canvas.{Canvas}
-use Rattle.ledger.specs.declared.state.Answer.{Answer}
-use Rattle.ledger.specs.declared.state.Answer.TheVariants.{Refused, Painted, Done, Rendered}
+use Rattle.ledger.specs.Answer.{Answer, Refused, Painted, Done, Rendered}
 
 -- left, right, bottom, top, painted, character, background, labels, draws, columns, rows, marker, dirty, rendered; the ten after
 -- them have no meaning yet, and wait for fields to come: an opening writes them 0, and nothing reads them (`unread` of Hosted)
@@ -87,6 +87,11 @@ words_after words (Refused number) c = words
 words_after words (Painted n) c = kept_words words c
 words_after words Done c = kept_words words c
 words_after words (Rendered n labels) c = kept_words words c
+
+-- the same by a call's result in the code
+abbrev pub words_left : {A : Type 0} → List ℕ → Result A Refusal → Canvas → List ℕ
+words_left words (Ok x) c = kept_words words c
+words_left words (Err r) c = words
 
 -- the lent numbers
 abbrev pub painted_after : ℕ → Answer → ℕ

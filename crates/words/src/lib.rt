@@ -4,11 +4,13 @@
 
 ghost use Rattle.std.specs.Prelude.{◌≡◌, ◌≤◌, ◌^◌, ◌%◌, length};
 ghost use Rattle.floats.specs.Arithmetic.{bits};
-ghost use Rattle.words.specs.Words.{canvas_words, short_words, mark_of, word_of, bounds_in, canvas_of, kept_words, all_words, bits_of, changed_words, cleared_words, fixed_words, status_of, words_after, painted_after, label_cells_after};
+ghost use Rattle.refusals.specs.Refusals.{number_in};
+ghost use Rattle.words.specs.Words.{canvas_words, short_words, mark_of, bounds_in, canvas_of, kept_words, all_words, bits_of, changed_words, cleared_words, fixed_words, words_left};
 
 use canvas::calls::zero_canvas;
 use form::fields::from_bits;
-use ledger::state::{Answer, Called, Canvas};
+use ledger::state::Canvas;
+use refusals::refusal::Refusal;
 use walk::clip::Bounds;
 
 const WORDS: usize = 24;
@@ -45,12 +47,6 @@ fn as_mark(word: u64) -> bool
     word % 2 == 1
 }
 
-fn mark_word(mark: bool) -> u64
-    ensures { result ≡ word_of mark }
-{
-    if mark { 1 } else { 0 }
-}
-
 // The bits of a float, a NaN's too.
 fn bits_of(x: f64) -> u64
     ensures { (result ≡ bits_of x) × (bits result ≡ x) }
@@ -78,6 +74,7 @@ fn bounds_in(words: &[u64]) -> Bounds
 }
 
 // The canvas that words mean.
+#[tactic(auto, unfolding(crate::specs::Words::canvas_of))]
 pub fn load(words: &[u64]) -> Canvas
     ensures { result ≡ canvas_of words.now }
 {
@@ -115,28 +112,19 @@ fn put_changed(words: &mut [u64], c: Canvas)
     ensures { words.new ≡ changed_words words.old c }
 {
     words[4] = c.painted;
-    words[5] = c.character as u64;
-    words[7] = c.labels as u64;
-    words[8] = c.draws as u64;
-    words[11] = c.marker as u64;
-    words[12] = mark_word(c.dirty);
-    words[13] = mark_word(c.rendered);
+    words[5] = u64::from(c.character);
+    words[7] = u64::from(c.labels);
+    words[8] = u64::from(c.draws);
+    words[11] = u64::from(c.marker);
+    words[12] = u64::from(c.dirty);
+    words[13] = u64::from(c.rendered);
 }
 
 fn put_zeros(words: &mut [u64])
     requires { canvas_words ≤ length words.old }
     ensures { words.new ≡ cleared_words words.old }
 {
-    words[14] = 0;
-    words[15] = 0;
-    words[16] = 0;
-    words[17] = 0;
-    words[18] = 0;
-    words[19] = 0;
-    words[20] = 0;
-    words[21] = 0;
-    words[22] = 0;
-    words[23] = 0;
+    words[14..WORDS].fill(0);
 }
 
 fn put_fixed(words: &mut [u64], c: Canvas)
@@ -148,12 +136,13 @@ fn put_fixed(words: &mut [u64], c: Canvas)
     words[1] = bits_of(b.right);
     words[2] = bits_of(b.bottom);
     words[3] = bits_of(b.top);
-    words[6] = c.background as u64;
-    words[9] = c.columns as u64;
-    words[10] = c.rows as u64;
+    words[6] = u64::from(c.background);
+    words[9] = u64::from(c.columns);
+    words[10] = u64::from(c.rows);
 }
 
 // The fields that calls change, put into the words.
+#[tactic(auto, unfolding(crate::specs::Words::kept_words))]
 pub fn keep(words: &mut [u64], c: Canvas)
     ensures { words.new ≡ kept_words words.old c }
 {
@@ -164,6 +153,7 @@ pub fn keep(words: &mut [u64], c: Canvas)
 }
 
 // All fields, put into the words, and 0 into those without a meaning.
+#[tactic(auto, unfolding(crate::specs::Words::all_words))]
 pub fn keep_all(words: &mut [u64], c: Canvas)
     ensures { words.new ≡ all_words words.old c }
 {
@@ -175,72 +165,16 @@ pub fn keep_all(words: &mut [u64], c: Canvas)
     put_changed(&mut *words, c);
 }
 
-// 0, or the refusal's number.
-pub fn status(answer: Answer) -> u8
-    ensures { result ≡ status_of answer }
-{
-    match answer {
-        Answer::Refused(number) => number,
-        Answer::Painted(_) => 0,
-        Answer::Done => 0,
-        Answer::Rendered(_, _) => 0,
-    }
-}
-
 // A call's outcome: the words are kept where it is accepted, and the answer is 0 or the refusal's number.
-pub fn finish(words: &mut [u64], called: Called) -> u8
-    ensures { (result ≡ status_of called.answer) × (words.new ≡ words_after words.old called.answer called.canvas) }
+pub fn finish<T: Copy>(words: &mut [u64], canvas: Canvas, called: Result<T, Refusal>) -> u8
+    ensures status { result ≡ number_in called }
+    ensures words { words.new ≡ words_left words.old called canvas }
 {
-    let answer = called.answer;
-    let canvas = called.canvas;
-    match answer {
-        Answer::Refused(number) => number,
-        Answer::Painted(_) => {
+    match called {
+        Ok(_) => {
             keep(&mut *words, canvas);
             0
         }
-        Answer::Done => {
-            keep(&mut *words, canvas);
-            0
-        }
-        Answer::Rendered(_, _) => {
-            keep(&mut *words, canvas);
-            0
-        }
-    }
-}
-
-// The painted number after a call: that of a refused call is as it was.
-fn painted_after(before: u64, answer: Answer) -> u64
-    ensures { result ≡ painted_after before answer }
-{
-    match answer {
-        Answer::Refused(_) => before,
-        Answer::Painted(n) => n,
-        Answer::Done => before,
-        Answer::Rendered(n, _) => n,
-    }
-}
-
-// The outcome of a call that paints, with its painted number put into the lent one.
-pub fn finish_painted(words: &mut [u64], called: Called, painted: &mut u64) -> u8
-    ensures value { (result ≡ status_of called.answer) × (words.new ≡ words_after words.old called.answer called.canvas) }
-    ensures painted_after { painted.new ≡ painted_after painted.old called.answer }
-{
-    let answer = called.answer;
-    let before = *painted;
-    *painted = painted_after(before, answer);
-    finish(&mut *words, called)
-}
-
-// The label cells after a call: those of a refused call are as they were.
-pub fn label_cells_after(before: u32, answer: Answer) -> u32
-    ensures { result ≡ label_cells_after before answer }
-{
-    match answer {
-        Answer::Refused(_) => before,
-        Answer::Painted(_) => before,
-        Answer::Done => before,
-        Answer::Rendered(_, n) => n,
+        Err(refusal) => u8::from(refusal),
     }
 }

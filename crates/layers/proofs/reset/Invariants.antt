@@ -1,5 +1,4 @@
 -- After i turns the first i cells are cleared; past the last that the store has there is nothing to do.
-use Prim.Native.Nat.{◌≤◌, ◌-◌}
 use mathlib.Core.Path.{◌≡◌}
 use lib.ListN.{length}
 use Rattle.grids.specs.Cells.{each_cell}
@@ -8,7 +7,4 @@ use Rattle.layers.proofs.reset.Given as goal
 
 abbrev pub invariant-loop-i : goal.invariant-loop-i
 invariant-loop-i l =
-    (l.i ≤ l.n) × (length l.cells ≡ length l.initial.cells) × (l.cells ≡ each_cell cleared_cell l.initial.cells l.i)
-
-abbrev pub decreases-loop-i : goal.decreases-loop-i
-decreases-loop-i l = l.n - l.i
+    (length l.cells ≡ length l.initial.cells) × (l.cells ≡ each_cell cleared_cell l.initial.cells l.i)

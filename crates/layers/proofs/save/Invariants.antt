@@ -1,14 +1,10 @@
 -- After i turns the first i cells are saved.
-use Prim.Native.Nat.{◌≤◌, ◌-◌, ◌%◌, ◌^◌}
+use Prim.Native.Nat.{◌%◌, ◌^◌}
 use mathlib.Core.Path.{◌≡◌}
-use lib.ListN.{length}
 use Rattle.grids.specs.Cells.{each_cell}
 use Rattle.grids.specs.Layer.{saved_cell}
 use Rattle.layers.proofs.save.Given as goal
 
 abbrev pub invariant-loop-i : goal.invariant-loop-i
 invariant-loop-i l =
-    (l.i ≤ l.n) × (length l.cells ≡ length l.initial.cells) × (l.cells ≡ each_cell (saved_cell l.marker (l.character % 2 ^ 21)) l.initial.cells l.i)
-
-abbrev pub decreases-loop-i : goal.decreases-loop-i
-decreases-loop-i l = l.n - l.i
+    l.cells ≡ each_cell (saved_cell l.marker (l.character % 2 ^ 21)) l.initial.cells l.i

@@ -10,6 +10,6 @@ returns c =
     let a = c.args in
     let character = a.character % 2 ^ 21 in
     c.merge_rest.ensures a.cells.now c.merge_fours.ensures
-    ∙ rw c.held-n.ensures
+    ∙ rw c.cells_held-n.ensures
     (each-held (merged_cell a.marker character) a.cells.now (a.columns * a.rows)
     ∙ sym (each-each cleared_cell (saved_cell a.marker character) a.cells.now (a.columns * a.rows)))

@@ -1,13 +1,9 @@
--- The tests of the definition, from its first to its last.
-use native.Mathlib.Omega.{arith}
-use Rattle.lists.proofs.PairParts.{too_many, no-count, by-room}
+-- The two tests of the definition.
+use Rattle.lists.proofs.PairParts.{too_many, by-room}
 use Rattle.lists.proofs.has_list.Goals as goal
 
-pub returns-then-count-gt4096 : goal.returns-then-count-gt4096
-returns-then-count-gt4096 c = let a = c.args in too_many a.part.now a.count c.if-count-gt4096.true
+pub returns-then-count-le4096 : goal.returns-then-count-le4096
+returns-then-count-le4096 c = rw c.saturating_sub.ensures (by-room c.args.part.now c.args.count c.if-count-le4096.true)
 
-pub returns-then-part-lt2 : goal.returns-then-part-lt2
-returns-then-part-lt2 c = let a = c.args in no-count a.part.now a.count (omega (arith, c.if-count-gt4096.false)) c.if-part-lt2.true
-
-pub returns : goal.returns
-returns c = let a = c.args in by-room a.part.now a.count (omega (arith, c.if-count-gt4096.false))
+pub returns-else-count-le4096 : goal.returns-else-count-le4096
+returns-else-count-le4096 c = too_many c.args.part.now c.args.count c.if-count-le4096.false

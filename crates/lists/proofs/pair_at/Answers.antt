@@ -9,6 +9,6 @@ pub returns : goal.returns
 returns c =
     let part = c.args.part.now in
     rw (
-      c.from_bits-y.ensures ∙ ap bits (c.number64-b.ensures ∙ number-in-pair part c.args.at 8 c.requires (omega arith)),
-      c.from_bits-x.ensures ∙ ap bits (c.number64-a.ensures ∙ first-in-pair part c.args.at c.requires),
+      c.read-y.ensures ∙ ap bits (number-in-pair part c.args.at 8 c.requires (omega arith)),
+      c.read-x.ensures ∙ ap bits (first-in-pair part c.args.at c.requires),
     )

@@ -1,5 +1,6 @@
--- The measure is the files left; no contract says what is read or printed.
+-- A file of the bundle agrees or differs, so both counts fit.
+use Rattle.std.proofs.Common.{◌+◌, ◌≤◌}
 use Rattle.recorded.proofs.main.Given as goal
 
-abbrev pub decreases-loop-left : goal.decreases-loop-left
-decreases-loop-left l = l.left
+abbrev pub invariant-loop : goal.invariant-loop
+invariant-loop l = l.agree + l.differ ≤ l.counter

@@ -1,25 +1,21 @@
--- The two refusals, and the point by case.
-use Rattle.std.proofs.Common.{sym, ◌∙◌}
+-- The two refusals, and the point of the canvas' view.
+use Rattle.std.proofs.Common.{sym, ◌∙◌, arith}
 use Rattle.ledger.specs.PointCall.{point_refusal, pointed_on}
 use Rattle.ledger.proofs.CallSteps.{canvas-size}
+use Rattle.canvas.proofs.Refusing.{passed, conditions}
 use Rattle.canvas.proofs.calls.get_point.Goals as goal
 
-pub returns-then-is_bad_canvas : goal.returns-then-is_bad_canvas
+pub returns-in_err-refuse_if : goal.returns-in_err-refuse_if
 unfolding point_refusal pointed_on
-returns-then-is_bad_canvas c = rw (← c.is_bad_canvas.ensures, c.if-is_bad_canvas.true)
+returns-in_err-refuse_if c = grind (arith, conditions)
 
-pub returns-then-is_bad_point : goal.returns-then-is_bad_point
+pub returns-in_err-refuse_if-2 : goal.returns-in_err-refuse_if-2
 unfolding point_refusal pointed_on
-returns-then-is_bad_point c = rw (← c.is_bad_canvas.ensures, c.if-is_bad_canvas.false, ← c.is_bad_point.ensures, c.if-is_bad_point.true)
+returns-in_err-refuse_if-2 c = grind (arith, conditions)
 
-pub returns-in-At : goal.returns-in-At
+pub returns : goal.returns
 unfolding point_refusal pointed_on
-returns-in-At c =
-    let size = canvas-size c.args.canvas (sym c.is_bad_canvas.ensures ∙ c.if-is_bad_canvas.false) in
-    rw (← c.is_bad_canvas.ensures, c.if-is_bad_canvas.false, ← c.is_bad_point.ensures, c.if-is_bad_point.false, ← c.view_of-v.ensures size.0 size.1, ← c.point-found.ensures, c.in-At.is)
-
-pub returns-in-Nowhere : goal.returns-in-Nowhere
-unfolding point_refusal pointed_on
-returns-in-Nowhere c =
-    let size = canvas-size c.args.canvas (sym c.is_bad_canvas.ensures ∙ c.if-is_bad_canvas.false) in
-    rw (← c.is_bad_canvas.ensures, c.if-is_bad_canvas.false, ← c.is_bad_point.ensures, c.if-is_bad_point.false, ← c.view_of-v.ensures size.0 size.1, ← c.point-found.ensures, c.in-Nowhere.is)
+returns c =
+    let good = passed _ _ c.in_ok-refuse_if.ensures in
+    let size = canvas-size c.args.canvas (sym c.is_bad_canvas.ensures ∙ good) in
+    rw (← c.is_bad_canvas.ensures, good, ← c.is_bad_point.ensures, passed _ _ c.in_ok-refuse_if-2.ensures, c.point.ensures, c.view_of-v.ensures size.0 size.1, c.from-marker.ensures)

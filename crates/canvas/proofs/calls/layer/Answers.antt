@@ -1,17 +1,20 @@
--- A refused call is given back; an accepted one has saved its layer and cleared the grid.
-use Rattle.std.proofs.Common.{sym, ◌∙◌}
+-- A refused call leaves all as it was; an accepted one has saved its layer and cleared the grid.
+use Rattle.std.proofs.Common.{◌∙◌}
+use Rattle.std.proofs.lemmas.Result.{err_from_is_err_and}
 use Rattle.ledger.specs.Calls.{layer}
-use Rattle.ledger.proofs.CallSteps.{refused-gives, accepted-gives, layer-by}
+use Rattle.ledger.proofs.CallSteps.{accepted-gives, layer-by}
+use Rattle.canvas.proofs.Leaving.{leaves, refused}
 use Rattle.canvas.proofs.calls.layer.Goals as goal
 
-pub returns-then-n-ne0 : goal.returns-then-n-ne0
-returns-then-n-ne0 c =
+pub returns-in_err-state : goal.returns-in_err-state
+returns-in_err-state c =
     let a = c.args in
-    let g = refused-gives a.canvas a.cells.now a.labels.now layer _ _ (layer-by _ _ _ _ c.state-n.ensures) c.if-n-ne0.true c.refused.ensures in
-    (g.called, g.cells)
+    let p = err_from_is_err_and c.from_residual.result c.from_residual.ensures.1 in
+    let g = refused a.canvas.now a.cells.now a.labels.now layer _ (layer-by _ _ _ _ c.in_err-state.ensures) in
+    record { answer = rw (p.1, p.2) g.answer; canvas = g.canvas; cells = g.cells }
 
 pub returns : goal.returns
 returns c =
     let a = c.args in
-    let g = accepted-gives a.canvas a.cells.now a.labels.now layer (layer-by _ _ _ _ (sym c.if-n-ne0.false ∙ c.state-n.ensures)) in
-    (g.called, c.finish_layer.ensures ∙ g.cells)
+    let g = leaves _ layer _ _ _ (accepted-gives a.canvas.now a.cells.now a.labels.now layer (layer-by _ _ _ _ c.in_ok-state.ensures)) in
+    record { answer = g.answer; canvas = g.canvas; cells = (rw c.from-marker.ensures at c.finish_layer.ensures) ∙ g.cells }

@@ -1,17 +1,21 @@
--- A refused call is given back; an accepted one has saved a dirty layer and cleared the grid.
-use Rattle.std.proofs.Common.{sym, ◌∙◌}
+-- A refused call leaves all as it was; an accepted one has saved a dirty layer and cleared the grid.
+use Rattle.std.proofs.Common.{◌∙◌}
+use Rattle.std.proofs.lemmas.Result.{err_from_is_err_and}
 use Rattle.ledger.specs.Calls.{marker}
-use Rattle.ledger.proofs.CallSteps.{refused-gives, accepted-gives}
+use Rattle.ledger.proofs.CallSteps.{accepted-gives}
+use Rattle.canvas.proofs.Leaving.{leaves, refused}
 use Rattle.canvas.proofs.calls.marker.Goals as goal
 
-pub returns-then-n-ne0 : goal.returns-then-n-ne0
-returns-then-n-ne0 c =
+pub returns-in_err-marker_refusal : goal.returns-in_err-marker_refusal
+returns-in_err-marker_refusal c =
     let a = c.args in
-    let g = refused-gives a.canvas a.cells.now a.labels.now (marker a.number a.character) _ _ c.marker_refusal-n.ensures c.if-n-ne0.true c.refused.ensures in
-    (g.called, g.cells)
+    let p = err_from_is_err_and c.from_residual.result c.from_residual.ensures.1 in
+    let g = refused a.canvas.now a.cells.now a.labels.now (marker a.number a.character) _ c.in_err-marker_refusal.ensures in
+    record { answer = rw (p.1, p.2) g.answer; canvas = g.canvas; cells = g.cells }
 
 pub returns : goal.returns
 returns c =
     let a = c.args in
-    let g = accepted-gives a.canvas a.cells.now a.labels.now (marker a.number a.character) (sym c.if-n-ne0.false ∙ c.marker_refusal-n.ensures) in
-    (g.called, c.clear_grid.ensures ∙ g.cells)
+    let call = marker a.number a.character in
+    let g = leaves _ call _ _ _ (accepted-gives a.canvas.now a.cells.now a.labels.now call c.in_ok-marker_refusal.ensures) in
+    record { answer = g.answer; canvas = g.canvas; cells = c.clear_grid.ensures ∙ g.cells }

@@ -1,15 +1,17 @@
--- A refused opening is all zero; an accepted one has blanked its cells.
-use Rattle.std.proofs.Common.{sym, ◌∙◌}
+-- A refused opening leaves the cells; an accepted one has blanked its cells.
+use Rattle.std.proofs.Common.{refl, ◌∙◌}
+use Rattle.std.proofs.lemmas.Result.{err_from_is_err_and}
 use Rattle.ledger.proofs.CallSteps.{open-refused, open_done}
+use Rattle.canvas.proofs.Refusing.{some-number}
 use Rattle.canvas.proofs.calls.open.Goals as goal
 
-pub returns-then-n-ne0 : goal.returns-then-n-ne0
-returns-then-n-ne0 c =
-    let a = c.args in
-    open-refused _ a.cells.now _ _ _ _ c.open_refusal-n.ensures c.if-n-ne0.true c.zero_canvas-zero.ensures c.refused.ensures
+pub returns-in_err-open_refusal : goal.returns-in_err-open_refusal
+returns-in_err-open_refusal c =
+    let p = err_from_is_err_and c.from_residual.result c.from_residual.ensures.1 in
+    let g = open-refused _ c.args.cells.now _ _ _ _ c.in_err-open_refusal.ensures (some-number _) refl refl in
+    record { canvas = rw (p.1, p.2) g.0; cells = g.1 }
 
 pub returns : goal.returns
 returns c =
-    let a = c.args in
-    let g = open_done _ a.cells.now _ (sym c.if-n-ne0.false ∙ c.open_refusal-n.ensures) in
-    (g.0, c.blank.ensures ∙ g.1)
+    let g = open_done _ c.args.cells.now _ c.in_ok-open_refusal.ensures in
+    record { canvas = g.0; cells = c.blank.ensures ∙ g.1 }

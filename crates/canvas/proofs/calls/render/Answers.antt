@@ -1,17 +1,32 @@
--- A refused call is given back; an accepted one has laid the picture, then the labels.
-use Rattle.std.proofs.Common.{sym, ◌∙◌}
+-- A refused call leaves all as it was; an accepted one has laid the picture, then the labels.
+use Rattle.std.proofs.Common.{ap}
+use Rattle.std.proofs.lemmas.Result.{err_from_is_err_and}
 use Rattle.ledger.specs.Calls.{render}
-use Rattle.ledger.proofs.CallSteps.{refused-gives}
+use Rattle.ledger.specs.Answer.{Called}
 use Rattle.ledger.proofs.LabelSteps.{render-refused, render-gives}
+use Rattle.canvas.proofs.Refusing.{some-number}
+use Rattle.canvas.proofs.Leaving.{refused}
 use Rattle.canvas.proofs.calls.render.Goals as goal
 
-pub returns-then-n-ne0 : goal.returns-then-n-ne0
-returns-then-n-ne0 c =
+pub returns-in_err-render_refusal : goal.returns-in_err-render_refusal
+returns-in_err-render_refusal c =
     let a = c.args in
-    let g = refused-gives a.canvas a.cells.now a.labels.now (render a.area a.screen.now) _ _ c.render_refusal-n.ensures c.if-n-ne0.true c.refused.ensures in
-    (g.called, (g.cells, render-refused a.canvas a.cells.now a.labels.now a.area a.screen.now _ c.render_refusal-n.ensures c.if-n-ne0.true))
+    let p = err_from_is_err_and c.from_residual.result c.from_residual.ensures.1 in
+    let g = refused a.canvas.now a.cells.now a.labels.now (render a.area a.screen.now) _ c.in_err-render_refusal.ensures in
+    record {
+      answer = rw (p.1, p.2) g.answer;
+      canvas = g.canvas;
+      cells = g.cells;
+      screen = render-refused a.canvas.now a.cells.now a.labels.now a.area a.screen.now _ c.in_err-render_refusal.ensures (some-number _);
+    }
 
 pub returns : goal.returns
 returns c =
     let a = c.args in
-    render-gives a.canvas a.cells.now a.labels.now a.area a.screen.now (sym c.if-n-ne0.false ∙ c.render_refusal-n.ensures) _ _ _ _ c.finish.ensures c.lay.ensures c.lay.auto.screen c.write_labels-label_cells.ensures
+    let g = render-gives a.canvas.now a.cells.now a.labels.now a.area a.screen.now c.in_ok-render_refusal.ensures _ _ _ _ c.finish.ensures c.lay.ensures c.lay.auto.screen c.write_labels-label_cells.ensures in
+    record {
+      answer = ap (λ (r : Called). r.answer) g.0;
+      canvas = ap (λ (r : Called). r.canvas) g.0;
+      cells = g.1.0;
+      screen = g.1.1;
+    }

@@ -5,5 +5,4 @@ use Rattle.display.proofs.laying.lay_cell.Goals as goal
 
 pub returns : goal.returns
 unfolding words_at
-returns c =
-    rw (cell-held c.args.cells.now c.args.from c.requires.1, c.value_or-back.ensures, c.value_or-foreground.ensures, c.value_or-symbol.ensures)
+returns c = rw (cell-held c.args.cells.now c.args.i c.requires.1, c.value_or-back.ensures, c.value_or-foreground.ensures, c.value_or-symbol.ensures)

@@ -1,19 +1,14 @@
--- The same sum of products; it fits, being of 16-bit and 32-bit numbers.
-use Rattle.ledger.proofs.Spots.{spot-lt}
-use Rattle.std.proofs.Common.{arith}
+-- The same sum of products; it is of 16-bit and 32-bit numbers.
+use Rattle.std.proofs.Common.{◌+◌, ◌^◌, mul-le-mul, arith}
 use Rattle.ledger.specs.Model.{spot}
 use Rattle.display.proofs.laying.spot_index.Goals as goal
 
-pub overflow_mul-result : goal.overflow_mul-result
-overflow_mul-result c =
-    let a = c.args.a in
-    rw (c.wide-3.ensures, c.wide-2.ensures, c.wide.ensures) (omega (arith, spot-lt a.y c.args.row a.columns 0 0 (omega arith) (omega arith) (omega arith) (omega arith) (omega arith)))
-
-pub overflow_add-result-3 : goal.overflow_add-result-3
-overflow_add-result-3 c =
-    let a = c.args.a in
-    rw (c.wide-5.ensures, c.wide-4.ensures, c.wide-3.ensures, c.wide-2.ensures, c.wide.ensures) (omega (arith, spot-lt a.y c.args.row a.columns a.x c.args.column (omega arith) (omega arith) (omega arith) (omega arith) (omega arith)))
-
-pub returns : goal.returns
+pub returns-clause-place : goal.returns-clause-place
 unfolding spot
-returns c = rw (c.wide-5.ensures, c.wide-4.ensures, c.wide-3.ensures, c.wide-2.ensures, c.wide.ensures)
+returns-clause-place c = rw (c.from.ensures, c.from-2.ensures, c.from-3.ensures)
+
+pub returns-clause-small : goal.returns-clause-small
+returns-clause-small c =
+    let a = c.args in
+    rw (c.from.ensures, c.from-2.ensures, c.from-3.ensures)
+    (omega (arith, mul-le-mul {n₁ = a.a.y + a.row} {m₁ = a.a.columns} {n₂ = 2 ^ 33} {m₂ = 2 ^ 16} (omega arith) (omega arith)))

@@ -1,50 +1,54 @@
 -- The tests in the order of the definition.
-use borrow.Author.Rules.{part_to_end}
-use Rattle.form.specs.Fields.{size_by}
-use Rattle.std.proofs.Common.{◌≡◌, ◌+◌, ◌-◌, ◌∙◌, ℕ, List, length, take, drop, arith}
-use Rattle.form.specs.Forms.{kind_at, map_at, widths_of, record_widths, record_end}
-use Rattle.form.proofs.FormSteps.{Headed, too_long, ended-early, unknown-kind, extra-bit, cut_short, well-formed, refused-form}
+use Rattle.std.proofs.Common.{◌+◌, ◌<◌, length, arith}
+use Rattle.std.proofs.lemmas.Result.{err_from_is_err_and}
+use Rattle.form.specs.Forms.{record_end}
+use Rattle.form.proofs.FormSteps.{headed, extra-refused, map-bound, widths-are, too_long, ended-early, unknown-kind, cut_short, well-formed}
 use Rattle.form.proofs.sizes.record_form.Goals as goal
+use Rattle.form.proofs.sizes.record_form.Goals.{then-at-gt65536-via-then-at-gt65536, then-at-gt65536-via-else-at-gt65536+then-file-at}
 
--- the size of the fields in the rest of the file
-size-is : (file : List ℕ) (at size : ℕ) → size ≡ size_by (map_at file at) (widths_of (kind_at file at) (map_at file at) (take (length file - (at + 2)) (drop (at + 2) file)))
-    → size ≡ size_by (map_at file at) (record_widths file at)
-size-is file at size h = h ∙ rw (part_to_end file (at + 2))
+pub returns-then-file-gt65536-clause-number : goal.returns-then-file-gt65536-clause-number
+returns-then-file-gt65536-clause-number c = let a = c.args in too_long a.file.now a.at c.if-file-gt65536.true
 
-pub returns-then-file-gt65536 : goal.returns-then-file-gt65536
-returns-then-file-gt65536 c = let a = c.args in refused-form _ _ _ _ (too_long a.file.now a.at c.if-file-gt65536.true) c.bad_form.ensures
-
-pub returns-then-at-gt65536 : goal.returns-then-at-gt65536
-returns-then-at-gt65536 c =
+pub returns-then-at-gt65536-clause-number : goal.returns-then-at-gt65536-clause-number
+returns-then-at-gt65536-clause-number c =
     let a = c.args in
-    refused-form _ _ _ _ (ended-early a.file.now a.at c.if-file-gt65536.false (omega (arith, c.if-at-gt65536.true, c.if-file-gt65536.false))) c.bad_form-then-at-gt65536.ensures
+    let early : length a.file.now < a.at + 2 =
+    elim c.then-at-gt65536.branch [ then-at-gt65536-via-then-at-gt65536 w ↦ omega arith | then-at-gt65536-via-else-at-gt65536+then-file-at w ↦ omega arith ] in
+    ended-early a.file.now a.at c.if-file-gt65536.false early
 
-pub returns-then-file-first : goal.returns-then-file-first
-returns-then-file-first c =
+pub returns-in_err-kind-clause-number : goal.returns-in_err-kind-clause-number
+returns-in_err-kind-clause-number c =
     let a = c.args in
-    refused-form _ _ _ _ (ended-early a.file.now a.at c.if-file-gt65536.false c.if-file-first.true) c.bad_form-then-file-first.ensures
+    let h = c.in_err-kind.ensures in
+    let p = err_from_is_err_and c.from_residual.result c.from_residual.ensures.1 in
+    rw (p.1, p.2, h.0) (unknown-kind a.file.now a.at c.if-file-gt65536.false c.if-file-at.false h.1)
 
-pub returns-then-kind : goal.returns-then-kind
-returns-then-kind c =
+pub returns-in_err-size-clause-number : goal.returns-in_err-size-clause-number
+returns-in_err-size-clause-number c =
     let a = c.args in
-    refused-form _ _ _ _ (unknown-kind a.file.now a.at c.if-file-gt65536.false c.if-file-first.false c.if-kind.true) c.bad_form-then-kind.ensures
+    let p = err_from_is_err_and c.from_residual-in_err-size.result c.from_residual-in_err-size.ensures.1 in
+    let e = rw (widths-are a.file.now a.at _ c.in_ok-kind.ensures) at c.in_err-size.ensures.number in
+    rw (p.1, p.2) (extra-refused _ _ _ (headed _ _ _ c.in_ok-kind.ensures c.if-file-gt65536.false c.if-file-at.false) e)
 
-pub returns-then-map-end : goal.returns-then-map-end
-returns-then-map-end c =
-    let headed : Headed c.args.file.now c.args.at = record { within = c.if-file-gt65536.false; header = c.if-file-first.false; known = c.if-kind.false } in
-    refused-form _ _ _ _ (extra-bit _ _ headed (rw (← c.map_end-end.ensures _ _) c.if-map-end.true)) c.bad_form-then-map-end.ensures
-
-pub returns-then-file-first-2 : goal.returns-then-file-first-2
+pub returns-then-part-size-clause-number : goal.returns-then-part-size-clause-number
 unfolding record_end
-returns-then-file-first-2 c =
-    let headed : Headed c.args.file.now c.args.at = record { within = c.if-file-gt65536.false; header = c.if-file-first.false; known = c.if-kind.false } in
-    let size = size-is c.args.file.now c.args.at _ c.fields_size-size.ensures in
-    refused-form _ _ _ _ (cut_short _ _ headed (rw (← c.map_end-end.ensures _ _) c.if-map-end.false) (omega (arith, size, c.if-file-first-2.true, headed.header))) c.bad_form-then-file-first-2.ensures
+returns-then-part-size-clause-number c =
+    let a = c.args in
+    let n = rw (widths-are a.file.now a.at _ c.in_ok-kind.ensures) at c.in_ok-size.ensures.number in
+    let e = rw (widths-are a.file.now a.at _ c.in_ok-kind.ensures) at c.in_ok-size.ensures.value in
+    cut_short _ _ (headed _ _ _ c.in_ok-kind.ensures c.if-file-gt65536.false c.if-file-at.false) (map-bound a.file.now a.at n) (omega (arith, e, c.if-part-size.true))
 
-pub returns : goal.returns
+pub returns-clause-number : goal.returns-clause-number
 unfolding record_end
-returns c =
-    let headed : Headed c.args.file.now c.args.at = record { within = c.if-file-gt65536.false; header = c.if-file-first.false; known = c.if-kind.false } in
-    let size = size-is c.args.file.now c.args.at _ c.fields_size-size.ensures in
-    let z = well-formed _ _ headed (rw (← c.map_end-end.ensures _ _) c.if-map-end.false) (omega (arith, size, c.if-file-first-2.false, headed.header)) in
-    rw (← z, size)
+returns-clause-number c =
+    let a = c.args in
+    let n = rw (widths-are a.file.now a.at _ c.in_ok-kind.ensures) at c.in_ok-size.ensures.number in
+    let e = rw (widths-are a.file.now a.at _ c.in_ok-kind.ensures) at c.in_ok-size.ensures.value in
+    well-formed _ _ (headed _ _ _ c.in_ok-kind.ensures c.if-file-gt65536.false c.if-file-at.false) (map-bound a.file.now a.at n) (omega (arith, e, c.if-part-size.false))
+
+pub returns-clause-end : goal.returns-clause-end
+unfolding record_end
+returns-clause-end c =
+    let w = widths-are c.args.file.now c.args.at _ c.in_ok-kind.ensures in
+    let e = rw w at c.in_ok-size.ensures.value in
+    rw e

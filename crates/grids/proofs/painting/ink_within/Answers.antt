@@ -12,8 +12,8 @@ pub returns-then-i-held : goal.returns-then-i-held
 unfolding dot_set
 returns-then-i-held c =
     let a = c.args in
-    let h : a.i < min a.end (length a.cells.now / 5) = rw c.lesser-held.ensures at c.if-i-held.true in
+    let h : a.i < min a.end (length a.cells.now / 5) = rw c.min-held.ensures at c.if-i-held.true in
     rw (lt-ltb a.i a.end (omega arith)) (ink-part _ _ _ _ (omega arith) c.ink.ensures)
 
 pub returns-else-i-held : goal.returns-else-i-held
-returns-else-i-held c = sym (dot-past _ _ _ _ _ (rw c.lesser-held.ensures at c.if-i-held.false))
+returns-else-i-held c = sym (dot-past _ _ _ _ _ (rw c.min-held.ensures at c.if-i-held.false))

@@ -1,5 +1,6 @@
 -- Short words are refused; else the opening's canvas is put into them.
-use mathlib.Core.Path.{sym, ◌∙◌}
+use mathlib.Core.Path.{refl, sym, ◌∙◌}
+use Rattle.std.proofs.Common.{Ok, Err}
 use Rattle.words.specs.Hosted.{host}
 use Rattle.hosts.specs.Calls.{opening_with}
 use Rattle.hosts.proofs.LentCalls.{opened-short, opened-long}
@@ -11,8 +12,17 @@ returns-then-is_short-clause-opened c =
     opened-short (host a.canvas.now a.cells.now a.labels.now) (opening_with a.columns a.rows a.left a.right a.bottom a.top a.number a.character a.background)
     (sym c.is_short.ensures ∙ c.if-is_short.true)
 
-pub returns-clause-opened : goal.returns-clause-opened
-returns-clause-opened c =
+pub returns-in-Ok-clause-opened : goal.returns-in-Ok-clause-opened
+returns-in-Ok-clause-opened c =
     let a = c.args in
+    let is = rw c.in-Ok.is at c.open-opened.ensures.canvas in
     opened-long (host a.canvas.now a.cells.now a.labels.now) (opening_with a.columns a.rows a.left a.right a.bottom a.top a.number a.character a.background)
-    (sym c.is_short.ensures ∙ c.if-is_short.false) c.open-called.ensures.0 c.open-called.ensures.1 c.keep_all.ensures c.status.ensures
+    (Ok c.in-Ok.c) (sym c.is_short.ensures ∙ c.if-is_short.false) is c.open-opened.ensures.cells c.keep_all.ensures refl
+
+pub returns-in-Err-clause-opened : goal.returns-in-Err-clause-opened
+returns-in-Err-clause-opened c =
+    let a = c.args in
+    let is = rw c.in-Err.is at c.open-opened.ensures.canvas in
+    let words = rw c.zero_canvas.ensures at c.keep_all-in-Err.ensures in
+    opened-long (host a.canvas.now a.cells.now a.labels.now) (opening_with a.columns a.rows a.left a.right a.bottom a.top a.number a.character a.background)
+    (Err c.in-Err.refusal) (sym c.is_short.ensures ∙ c.if-is_short.false) is c.open-opened.ensures.cells words c.from.ensures

@@ -1,10 +1,12 @@
 -- The call on the canvas that the words mean.
 use Rattle.words.specs.Hosted.{host}
-use Rattle.hosts.proofs.LentCalls.{rendered}
+use Rattle.hosts.proofs.LentCalls.{shown, rendered-finished}
 use Rattle.hosts.proofs.calls.mossbuckle_render.Goals as goal
 
 pub returns : goal.returns
 returns c =
     let a = c.args in
-    rendered (host a.canvas.now a.cells.now a.labels.now) (record { columns = a.columns; rows = a.rows; x = a.x; y = a.y }) a.screen.now c.load-c.ensures
-    c.render-called.ensures.0 a.painted.now a.label_cells.now c.render-called.ensures.1 c.label_cells_after.ensures c.finish_painted.ensures.value c.finish_painted.ensures.painted_after
+    let h = host a.canvas.now a.cells.now a.labels.now in
+    shown h (record { columns = a.columns; rows = a.rows; x = a.x; y = a.y }) a.screen.now c.load-c.ensures c.render-called.ensures.answer c.render-called.ensures.canvas
+    a.painted.now a.label_cells.now c.render-called.ensures.cells c.render-called.ensures.screen
+    (rendered-finished h c.render-called.result c.finish_rendered.ensures.status c.finish_rendered.ensures.words) c.finish_rendered.ensures.painted c.finish_rendered.ensures.label_cells

@@ -1,4 +1,4 @@
--- One case of the definition for each shape, by what `in_domain` and `is_bad_segment` ensure.
+-- One case of the definition for each shape, by what the functions called ensure.
 use Rattle.ledger.specs.Calls.{bad_shape}
 use Rattle.limits.proofs.state.is_bad_shape.Goals as goal
 
@@ -12,7 +12,7 @@ returns-in-FilledLine c = rw (c.in-FilledLine.is, c.is_bad_segment-in-FilledLine
 
 pub returns-in-Rectangle : goal.returns-in-Rectangle
 unfolding bad_shape
-returns-in-Rectangle c = rw (c.in-Rectangle.is, c.in_domain-in-Rectangle.ensures, c.in_domain-in-Rectangle-2.ensures, c.in_domain-in-Rectangle-3.ensures, c.in_domain-in-Rectangle-4.ensures)
+returns-in-Rectangle c = rw (c.in-Rectangle.is, c.are_in_domain.ensures)
 
 pub returns-in-Circle : goal.returns-in-Circle
 unfolding bad_shape

@@ -2,14 +2,15 @@
 use Rattle.ledger.specs.Model.{state_refusal}
 use Rattle.limits.proofs.state.state.Goals as goal
 
-pub returns-then-bad-short : goal.returns-then-bad-short
+pub returns-then-is_bad_canvas-is_short : goal.returns-then-is_bad_canvas-is_short
 unfolding state_refusal
-returns-then-bad-short c = rw (← c.is_bad_canvas-bad.ensures, ← c.is_short-short.ensures, c.if-bad-short.true)
+returns-then-is_bad_canvas-is_short c =
+    rw (← c.is_bad_canvas.ensures, ← c.is_short.ensures, c.if-is_bad_canvas-is_short.true)
 
 pub returns-then-c : goal.returns-then-c
 unfolding state_refusal
-returns-then-c c = rw (← c.is_bad_canvas-bad.ensures, ← c.is_short-short.ensures, c.if-bad-short.false, c.if-c.true)
+returns-then-c c = rw (← c.is_bad_canvas.ensures, ← c.is_short.ensures, c.if-is_bad_canvas-is_short.false, c.if-c.true)
 
 pub returns : goal.returns
 unfolding state_refusal
-returns c = rw (← c.is_bad_canvas-bad.ensures, ← c.is_short-short.ensures, c.if-bad-short.false, c.if-c.false)
+returns c = rw (← c.is_bad_canvas.ensures, ← c.is_short.ensures, c.if-is_bad_canvas-is_short.false, c.if-c.false)

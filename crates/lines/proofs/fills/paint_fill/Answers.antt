@@ -1,37 +1,33 @@
--- After k turns the course has made k steps, and the columns of its first k dots are painted: at most 2 ^ 32 dots each, so that their number fits.
-use Rattle.std.proofs.Common.{◌≡◌, ◌^◌, ◌≤◌, refl, ap, ◌∙◌, arith}
+-- A column has at most 2 ^ 32 dots, and there are fewer columns; the dots of the whole course are the line's.
+use Rattle.std.proofs.Common.{◌^◌, ◌<◌, ◌≤◌, length, arith, length-append}
+use Rattle.std.proofs.lemmas.Iterator.Consumers.{YieldsList-turn, YieldsList-end}
 use Rattle.walk.specs.Walk.{Fits16}
-use Rattle.walk.proofs.CourseDots.{next-course, course-over}
-use Rattle.lines.specs.Painted.{flat, column_to}
-use Rattle.lines.proofs.PaintedDots.{painted_same, column-le}
-use Rattle.lines.proofs.CourseLoops.{fill-next}
+use Rattle.walk.proofs.Tabulated.{length-tabulate}
+use Rattle.walk.proofs.DotsAlong.{course-yields}
+use Rattle.lines.specs.Painted.{column_to}
+use Rattle.lines.proofs.PaintedDots.{column-le}
+use Rattle.lines.proofs.DotLoops.{fill-next, fill-painted}
 use Rattle.lines.proofs.fills.paint_fill.Goals as goal
-
-pub loop-k-init : goal.loop-k-init
-loop-k-init c = (omega arith, refl, refl, omega arith, (refl, refl))
 
 pub overflow_add-painted : goal.overflow_add-painted
 overflow_add-painted c =
-    let column_fits : c.paint_column-painted.result ≤ 2 ^ 32 = let d = c.dot-d in column-le c.args.fill d.result _ c.paint_column-painted.ensures.0 (omega arith) (omega (arith, d.type_inv)) in
-    omega (arith, column_fits, c.new-c.type_inv)
+    let l = c.loop-dot in
+    let column_fits : c.paint_column-painted.result ≤ 2 ^ 32 = column-le c.args.fill c.in-Some.dot _ (rw c.from.ensures at c.paint_column-painted.ensures.0) (omega arith) (omega arith) in
+    let few : length l.yielded < c.new.result.count =
+    rw length-tabulate at (YieldsList-turn (course-yields c.new.result _ cc) l.yielded _ l.yielded_by _ _ c.in-Some.dot c.in-Some.is c.next.ensures.steps).0 in
+    omega (arith, column_fits, c.new.type_inv)
 
-pub loop-k-preserved : goal.loop-k-preserved
-loop-k-preserved c =
-    let column_fits : c.paint_column-painted.result ≤ 2 ^ 32 = let d = c.dot-d in column-le c.args.fill d.result _ c.paint_column-painted.ensures.0 (omega arith) (omega (arith, d.type_inv)) in
-    let w₀ = c.new-c.result in
-    let a = c.args in (
-      omega arith,
-      c.paint_column-painted.auto.cells ∙ c.loop-k.invariant.1,
-      next-course w₀ _ _ c.loop-k.k c.loop-k.invariant.2 c.step-w.ensures,
-      omega (arith, column_fits),
-      fill-next a.p (column_to a.fill) _ _ _ w₀ _ c.loop-k.k _ _ _ c.loop-k.invariant.2 c.dot-d.ensures c.loop-k.invariant.4 c.paint_column-painted.ensures,
+pub loop-dot-preserved : goal.loop-dot-preserved
+loop-dot-preserved c =
+    let l = c.loop-dot in
+    let column_fits : c.paint_column-painted.result ≤ 2 ^ 32 = column-le c.args.fill c.in-Some.dot _ (rw c.from.ensures at c.paint_column-painted.ensures.0) (omega arith) (omega arith) in (
+      rw length-append (omega (arith, column_fits)),
+      fill-next c.args.p (column_to c.args.fill) _ _ _ _ _ _ _ l.invariant.1 (rw c.from.ensures at c.paint_column-painted.ensures),
     )
 
 pub returns : goal.returns
 returns c =
     let fits : Fits16 c.args.e = record { x1 = omega arith; y1 = omega arith; x2 = omega arith; y2 = omega arith } in
-    let a = c.args in
-    let g : c.loop-k.k ≡ c.new-c.result.count = omega arith in
-    painted_same a.p _ _ _ _ _ _
-    (ap (flat (column_to a.fill)) (course-over a.e fits _ _ _ c.new-c.ensures refl g))
-    refl c.loop-k.invariant.4
+    let l = c.loop-dot in
+    fill-painted c.args.p (column_to c.args.fill) c.args.e fits _ _ _ _ _ c.new.ensures l.invariant.1
+    (YieldsList-end (course-yields c.new.result _ cc) l.yielded _ l.yielded_by _ _ c.in-None.is c.next.ensures.steps)

@@ -1,10 +1,7 @@
--- After k turns the course has made k steps, and its first k dots are painted: the cell of each is held.
-use Rattle.std.proofs.Common.{◌-◌, ◌≤◌}
-use Rattle.lines.proofs.CourseLoops.{Along}
+-- The dots so far are painted.
+use Rattle.std.proofs.Common.{◌≡◌}
+use Rattle.lines.specs.Painted.{painted_by}
 use Rattle.lines.proofs.held.held_braille.Given as goal
 
-abbrev pub invariant-loop-k : goal.invariant-loop-k
-invariant-loop-k l = (l.k ≤ l.n) × Along l.p l.initial.cells l.initial.w l.k l.w l.cells
-
-abbrev pub decreases-loop-k : goal.decreases-loop-k
-decreases-loop-k l = l.n - l.k
+abbrev pub invariant-loop-dot : goal.invariant-loop-dot
+invariant-loop-dot l = l.cells ≡ painted_by l.p l.initial.cells l.yielded

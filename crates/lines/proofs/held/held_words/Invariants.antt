@@ -1,12 +1,9 @@
 -- After k turns the words of the first k cells are set: `at` has made k steps, and `place` k slopes.
-use Rattle.std.proofs.Common.{◌≡◌, ◌-◌, ◌≤◌, length}
+use Rattle.std.proofs.Common.{◌≡◌}
 use Rattle.lines.specs.HeldWords.{word_after, words_set}
 use Rattle.lines.proofs.WordLoops.{AtTurn}
 use Rattle.lines.proofs.held.held_words.Given as goal
 
 abbrev pub invariant-loop-k : goal.invariant-loop-k
 invariant-loop-k l =
-    (l.k ≤ l.count) × AtTurn l.start l.step l.from l.slope l.k l.at l.place × (length l.cells ≡ length l.initial.cells) × (l.cells ≡ words_set l.word (word_after l.start l.step l.unit l.from l.slope) l.initial.cells l.k)
-
-abbrev pub decreases-loop-k : goal.decreases-loop-k
-decreases-loop-k l = l.count - l.k
+    AtTurn l.start l.step l.from l.slope l._k l.at l.place × (l.cells ≡ words_set l.word (word_after l.start l.step l.unit l.from l.slope) l.initial.cells l._k)

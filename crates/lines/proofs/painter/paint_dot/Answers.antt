@@ -1,20 +1,23 @@
 -- By the marker one of the ways to paint a dot.
-use Rattle.grids.proofs.DotSizes.{plain_size}
+use Rattle.std.proofs.Common.{◌≡◌, ◌⊎◌, inl, inr, refl}
+use Rattle.grids.specs.declared.markers.Marker.{Marker}
+use Rattle.grids.specs.declared.markers.Marker.TheVariants.{Dot, Block, Bar, Custom}
+use Rattle.grids.specs.Markers.{by, dot_size}
 use Rattle.lines.specs.Painted.{dot_at}
 use Rattle.lines.proofs.CourseLoops.{braille-dot, plain-dot, half-dot}
 use Rattle.lines.proofs.painter.paint_dot.Goals as goal
 
-pub returns-then-p-eq1 : goal.returns-then-p-eq1
-returns-then-p-eq1 c =
-    let a = c.args in
-    braille-dot a.p a.cells.now _ _ (dot_at a.column a.row) c.cells_held-end.ensures c.if-p-eq1.true c.paint_braille.ensures
+plain-size : (m : Marker) → (m ≡ Dot) ⊎ ((m ≡ Block) ⊎ ((m ≡ Bar) ⊎ (m ≡ Custom))) → dot_size m ≡ by 1 1
+plain-size m (inl e) = rw e refl
+plain-size m (inr (inl e)) = rw e refl
+plain-size m (inr (inr (inl e))) = rw e refl
+plain-size m (inr (inr (inr e))) = rw e refl
 
-pub returns-then-is_plain : goal.returns-then-is_plain
-returns-then-is_plain c =
-    let a = c.args in
-    plain-dot a.p a.cells.now _ _ (dot_at a.column a.row) c.cells_held-end-then-is_plain.ensures (plain_size _ (rw c.is_plain.ensures at c.if-is_plain.true)) c.paint_plain.ensures
+pub returns-in-Braille : goal.returns-in-Braille
+returns-in-Braille c = braille-dot c.args.p c.args.cells.now _ _ (dot_at c.args.column c.args.row) c.cells_held-end.ensures c.in-Braille.is c.paint_braille.ensures
 
-pub returns-then-p-eq5 : goal.returns-then-p-eq5
-returns-then-p-eq5 c =
-    let a = c.args in
-    half-dot a.p a.cells.now _ _ (dot_at a.column a.row) c.cells_held-end-then-p-eq5.ensures c.if-p-eq5.true c.paint_half.ensures
+pub returns-in-Dot : goal.returns-in-Dot
+returns-in-Dot c = plain-dot c.args.p c.args.cells.now _ _ (dot_at c.args.column c.args.row) c.cells_held-end.ensures (plain-size _ c.in-Dot.is) c.paint_plain.ensures
+
+pub returns-in-HalfBlock : goal.returns-in-HalfBlock
+returns-in-HalfBlock c = half-dot c.args.p c.args.cells.now _ _ (dot_at c.args.column c.args.row) c.cells_held-end.ensures c.in-HalfBlock.is c.paint_half.ensures

@@ -1,14 +1,11 @@
 -- The points of the pairs so far are painted, at most one for each, so that their number fits.
-use Rattle.std.proofs.Common.{◌-◌, ◌≤◌, take}
+use Rattle.std.proofs.Common.{◌≤◌, take}
+use Rattle.lines.specs.Painted.{Painted}
 use Rattle.shapes.specs.Shapes.{pair_dots}
-use Rattle.lines.proofs.PaintedDots.{Painted}
 use Rattle.pairs.proofs.points.paint_pairs.Given as goal
 
 abbrev pub invariant-loop-i : goal.invariant-loop-i
-invariant-loop-i l = record {
+invariant-loop-i g l = record {
   few : l.painted ≤ l.i;
-  so_far : Painted l.p l.initial.cells (pair_dots l.p.view (take l.i l.pairs)) l.painted l.cells;
+  so_far : Painted l.p l.initial.cells (pair_dots l.p.view (take l.i (g.P.Pairs.listed l.pairs))) l.painted l.cells;
 }
-
-abbrev pub decreases-loop-i : goal.decreases-loop-i
-decreases-loop-i l = l.n - l.i

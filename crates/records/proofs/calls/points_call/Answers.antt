@@ -1,50 +1,41 @@
--- The pairs in the bytes are the call's, and what `points` does with a lent list is done with them.
-use Rattle.ledger.specs.Calls.{bad_pairs, points}
-use Rattle.form.specs.declared.fields.Number.{Number}
-use Rattle.lines.proofs.PaintedDots.{painted_same}
-use Rattle.lists.specs.Lists.{pairs_at, list_fits}
-use Rattle.lists.proofs.PairParts.{bad-fits, dots-fit}
+-- The pairs in the bytes are the call's.
+use Rattle.std.proofs.Common.{◌≡◌, ◌∙◌, ap, refl, arith}
+use Rattle.std.proofs.lemmas.Result.{err_from_is_err_and}
+use Rattle.ledger.specs.Calls.{points}
+use Rattle.ledger.specs.Model.{refusal_on, state_after}
+use Rattle.ledger.specs.Outcomes.{given}
+use Rattle.form.proofs.FieldSteps.{Stand, number-step}
+use Rattle.lists.specs.Lists.{pairs_at}
 use Rattle.records.specs.Records.{points_call}
-use Rattle.pairs.proofs.PointsSteps.{RefusalSays, closes-refused, closes-drawn}
-use Rattle.lists.proofs.PairLists.{length-pairs-at}
 use Rattle.records.proofs.PointsRecords.{points-is}
-use native.Mathlib.Omega.{arith}
-use lib.ListN.{length}
-use mathlib.Core.Path.{◌≡◌, refl, sym, ap, subst, ◌∙◌}
-use Prim.Native.Nat.{ℕ}
-use mathlib.Core.Bool.{true}
+use Rattle.records.proofs.Answered.{by-refused, by-painted, state-drawn}
 use Rattle.records.proofs.calls.points_call.Goals as goal
-use Rattle.records.proofs.calls.points_call.Goals.{After-points_refusal-n}
 
--- the list lies in the part
-fits : (c : After-points_refusal-n) → list_fits c.args.part.now c.pair_count-count.result ≡ true
-fits c = subst (λ (n : ℕ). list_fits c.args.part.now n ≡ true) (sym c.pair_count-count.ensures) c.requires
-
--- whether one of its pairs is bad, the refusal, and the call in the bytes
-is_bad : (c : After-points_refusal-n) → c.is_bad_list-bad.result ≡ bad_pairs (pairs_at c.args.part.now 2 c.pair_count-count.result)
-is_bad c = c.is_bad_list-bad.ensures ∙ bad-fits c.args.part.now c.pair_count-count.result (fits c)
-
-refusal_is : (c : After-points_refusal-n) → RefusalSays c.args.canvas (length c.args.cells.now) (length c.args.labels.now) c.is_bad_list-bad.result (length (pairs_at c.args.part.now 2 c.pair_count-count.result)) c.number_field-colour.result.value c.points_refusal-n.result
-refusal_is c = λ pairs bad long. c.points_refusal-n.ensures pairs bad (sym (length-pairs-at c.args.part.now 2 c.pair_count-count.result) ∙ long)
-
-the_call : (c : After-points_refusal-n) → points (pairs_at c.args.part.now 2 c.pair_count-count.result) c.number_field-colour.result.value ≡ points_call c.args.map c.args.part.now
-the_call c =
-    let place = c.list_end-at.ensures in
-    let field = c.number_field-colour.ensures (omega arith) (omega (arith, place.1)) in
-    points-is c.args.map c.args.part.now _ _ _ c.pair_count-count.ensures place.0 (ap (λ (n : Number). n.value) field.0)
-
-pub returns-then-n-ne0 : goal.returns-then-n-ne0
-returns-then-n-ne0 c =
+pub returns-in_err-points : goal.returns-in_err-points
+returns-in_err-points c =
     let a = c.args in
-    let d = (goal.at.returns-then-n-ne0 c).After-points_refusal-n in
-    let s = closes-refused a.canvas a.cells.now a.labels.now _ _ _ _ _ (is_bad d) (refusal_is d) c.if-n-ne0.true c.refused.ensures in
-    (s.0 ∙ rw (the_call d), s.1 ∙ rw (the_call d))
+    let s = given a.canvas.now a.cells.now a.labels.now in
+    let place = c.list_end.ensures in
+    let at : Stand (record { part = a.part; map = a.map; at = c.list_end.result; weight = 2 }) a.part a.map c.list_end.result 2 2097152 = record { is = refl; low = omega (arith, place.1) } in
+    let k = number-step _ _ a.part a.map _ 2 2097152 4 16777216 _ at (omega arith) (omega arith) c.next-colour.ensures.value c.next-colour.ensures.after in
+    let list = c.unwrap-list.result in
+    let pairs : pairs_at list.part.now 2 list.count ≡ pairs_at a.part.now 2 c.pair_count.result = rw c.unwrap-list.ensures at c.new.ensures.pairs in
+    let call = points (pairs_at list.part.now 2 list.count) c.next-colour.result in
+    let e : call ≡ points_call a.map a.part.now = rw pairs (points-is a.map a.part.now _ _ _ c.pair_count.ensures place.0 k.0) in
+    let p = err_from_is_err_and c.from_residual.result c.from_residual.ensures.1 in
+    let h = c.in_err-points.ensures in
+    record { refusal = rw (p.1, p.2) (by-refused s call _ h.answer ∙ ap (refusal_on s) e); state = state-drawn s call _ _ refl h.canvas h.cells ∙ ap (state_after s) e }
 
 pub returns : goal.returns
 returns c =
     let a = c.args in
-    let p = c.painter_for-p.result in
-    let d = (goal.at.returns c).After-points_refusal-n in
-    let same = painted_same p _ _ _ _ _ _ (dots-fit a.part.now c.pair_count-count.result (fits d) p.view) refl c.paint_list-painted.ensures in
-    let s = closes-drawn a.canvas a.cells.now a.labels.now _ _ _ _ _ _ _ _ (is_bad d) (refusal_is d) c.if-n-ne0.false c.painter_for-p.ensures same c.drawn.ensures in
-    (s.0 ∙ rw (the_call d), s.1 ∙ rw (the_call d))
+    let s = given a.canvas.now a.cells.now a.labels.now in
+    let place = c.list_end.ensures in
+    let at : Stand (record { part = a.part; map = a.map; at = c.list_end.result; weight = 2 }) a.part a.map c.list_end.result 2 2097152 = record { is = refl; low = omega (arith, place.1) } in
+    let k = number-step _ _ a.part a.map _ 2 2097152 4 16777216 _ at (omega arith) (omega arith) c.next-colour.ensures.value c.next-colour.ensures.after in
+    let list = c.unwrap-list.result in
+    let pairs : pairs_at list.part.now 2 list.count ≡ pairs_at a.part.now 2 c.pair_count.result = rw c.unwrap-list.ensures at c.new.ensures.pairs in
+    let call = points (pairs_at list.part.now 2 list.count) c.next-colour.result in
+    let e : call ≡ points_call a.map a.part.now = rw pairs (points-is a.map a.part.now _ _ _ c.pair_count.ensures place.0 k.0) in
+    let h = c.in_ok-points.ensures in
+    record { refusal = by-painted s call _ h.answer ∙ ap (refusal_on s) e; state = state-drawn s call _ _ refl h.canvas h.cells ∙ ap (state_after s) e }

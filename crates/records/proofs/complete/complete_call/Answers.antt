@@ -1,19 +1,13 @@
--- By kind.
-use mathlib.Core.Path.{◌≡◌}
-use Rattle.records.specs.Records.{call_of}
-use Rattle.records.proofs.CompleteRecords.{remaining-kind}
+-- What the judged shape's draw does is the call's.
+use Rattle.std.proofs.Common.{◌∙◌, ap}
+use Rattle.ledger.specs.Model.{refusal_on, state_after}
+use Rattle.ledger.specs.Outcomes.{given}
 use Rattle.records.proofs.complete.complete_call.Goals as goal
 
-pub returns-then-kind-eq1 : goal.returns-then-kind-eq1
-unfolding call_of
-returns-then-kind-eq1 c = rw c.if-kind-eq1.true c.complete_line.ensures
-
-pub returns-then-kind-eq2 : goal.returns-then-kind-eq2
-unfolding call_of
-returns-then-kind-eq2 c = rw c.if-kind-eq2.true c.complete_filled_line.ensures
-
 pub returns : goal.returns
-unfolding call_of
 returns c =
-    let circle : c.args.kind ≡ 4 = remaining-kind _ c.requires c.if-kind-eq1.false c.if-kind-eq2.false in
-    rw circle c.complete_circle.ensures
+    let a = c.args in
+    let s = given a.canvas.now a.cells.now a.labels.now in
+    let h = c.draw_judged.ensures in
+    let e = c.judge.ensures.call in
+    record { refusal = h.refusal ∙ ap (refusal_on s) e; state = h.state ∙ ap (state_after s) e }

@@ -1,38 +1,9 @@
--- With every bit of the map each field's place is a number, as in the code; then what `draw` does.
-use mathlib.Core.Path.{◌≡◌, ◌∙◌}
-use mathlib.Core.Bool.{◌||◌}
-use Rattle.floats.specs.Arithmetic.{bits}
-use Rattle.shapes.specs.Drawing.{shape_dots}
-use Rattle.shapes.specs.declared.painters.Shape.{Shape}
-use Rattle.shapes.specs.declared.painters.Shape.TheVariants.{FilledLine}
-use Rattle.ledger.specs.Calls.{draw, bad_shape}
-use Rattle.records.specs.Records.{filled_line_call}
-use Rattle.records.proofs.CompleteRecords.{ends, filled-line-is, bad-filled-line, draw-refused, draw-accepted}
+-- With every bit of the map each field's place is a number, as in the code.
+use Rattle.records.proofs.CompleteRecords.{filled-line-is, bad-filled-line}
 use Rattle.records.proofs.complete.complete_filled_line.Goals as goal
-use Rattle.records.proofs.complete.complete_filled_line.Goals.{After-draw_refusal-n}
-
-abbrev shape : After-draw_refusal-n → Shape
-shape c = FilledLine (ends c.end_bits-e.result) (bits c.number64-fill.result)
-
--- whether a number is outside the domain, and the call in the bytes
-is_bad : (c : After-draw_refusal-n) → c.is_far_line.result || c.is_far.result ≡ bad_shape (shape c)
-is_bad c = bad-filled-line c.end_bits-e.result c.number64-fill.result _ _ c.is_far_line.ensures c.is_far.ensures
-
-the_call : (c : After-draw_refusal-n) → draw (shape c) c.number32-colour.result ≡ filled_line_call 63 c.args.part.now
-the_call c = filled-line-is c.args.part.now _ _ _ c.end_bits-e.ensures c.number64-fill.ensures c.number32-colour.ensures
-
-pub returns-then-n-ne0 : goal.returns-then-n-ne0
-returns-then-n-ne0 c =
-    let a = c.args in
-    let d = (goal.at.returns-then-n-ne0 c).After-draw_refusal-n in
-    let g = draw-refused a.canvas a.cells.now a.labels.now (shape d) _ _ _ (is_bad d) c.draw_refusal-n.ensures _ c.if-n-ne0.true c.refused.ensures in
-    (g.called ∙ rw (the_call d), (g.cells ∙ rw (the_call d), g.labels ∙ rw (the_call d)))
 
 pub returns : goal.returns
-unfolding shape_dots
-returns c =
-    let a = c.args in
-    let d = (goal.at.returns c).After-draw_refusal-n in
-    let g = draw-accepted a.canvas a.cells.now a.labels.now (shape d) _ _ _ (is_bad d) c.draw_refusal-n.ensures _ _ _ _ c.if-n-ne0.false c.painter_for-p.ensures
-    (rw (c.ends_of-s.ensures, c.from_bits-fill_to_y.ensures) at c.paint_filled_line-painted.ensures) c.drawn.ensures in
-    (g.called ∙ rw (the_call d), (g.cells ∙ rw (the_call d), g.labels ∙ rw (the_call d)))
+returns c = record {
+  call = rw (c.ends_of.ensures, c.from_bits.ensures) (filled-line-is c.args.part.now _ _ _ c.end_bits-e.ensures c.read-fill.ensures c.read.ensures);
+  bad = rw (c.ends_of.ensures, c.from_bits.ensures) (bad-filled-line c.end_bits-e.result c.read-fill.result _ _ c.is_far_line.ensures c.is_far.ensures);
+}

@@ -1,73 +1,76 @@
 -- Refused for its form, or the call that its bytes stand for.
-use native.Mathlib.Omega.{arith}
-use mathlib.Core.Path.{◌≡◌, sym, ◌∙◌}
-use mathlib.Core.List.{List}
-use lib.ListN.{length, drop, length-drop}
-use Prim.Native.Nat.{ℕ, ◌+◌, ◌≤◌}
+use Rattle.std.proofs.Common.{◌≤◌, ◌+◌, ◌∙◌, ap, sym, length, drop, length-drop, arith}
+use Rattle.std.proofs.lemmas.Result.{err_from_is_err_and}
 use borrow.Author.Rules.{part_to_end}
+use Rattle.ledger.specs.Model.{refusal_on, state_after}
 use Rattle.ledger.specs.Outcomes.{given}
 use Rattle.form.specs.Fields.{size_by}
-use Rattle.form.specs.Forms.{max_file, map_at, record_widths, record_end, record_form, form_by}
-use Rattle.form.specs.declared.sizes.Form.{Form}
-use Rattle.form.proofs.FormSteps.{Formed, formed, form-number, form-end}
-use Rattle.records.proofs.RecordSteps.{form-refused, called-part, taken-called}
+use Rattle.form.specs.Forms.{max_file, map_at, record_widths, record_end}
+use Rattle.floats.proofs.Cases.{false-not-true}
+use Rattle.form.proofs.FormSteps.{formed, known-formed}
+use Rattle.records.proofs.RecordSteps.{form-refused, form-called, called-part, refused-step, next-step}
 use Rattle.records.proofs.steps.take_record.Goals as goal
 
--- a record that its form lets through
-read : (file : List ℕ) (at : ℕ) (form : Form) → form ≡ form_by (record_form file at) (record_end file at) → form.number ≡ 0 → Formed file at
-read file at form made none = formed file at (sym none ∙ form-number _ _ form made)
-
-pub returns-then-number-ne0 : goal.returns-then-number-ne0
-returns-then-number-ne0 c =
+pub returns-in_err-end : goal.returns-in_err-end
+returns-in_err-end c =
     let a = c.args in
-    let r = form-refused (given a.canvas a.cells.now a.labels.now) a.file.now a.at _ (form-number _ _ _ c.record_form-form.ensures) c.if-number-ne0.true in
-    (rw (← r.1, ← r.0), (rw (← r.1), rw (← r.1)))
-
-pub overflow_add-first : goal.overflow_add-first
-overflow_add-first c =
-    let whole = read c.args.file.now c.args.at _ c.record_form-form.ensures c.if-number-ne0.false in
-    omega (arith, whole.header, whole.within)
+    let s = given a.canvas.now a.cells.now a.labels.now in
+    let p = err_from_is_err_and c.from_residual.result c.from_residual.ensures.1 in
+    let f = form-refused s a.file.now a.at _ c.in_err-end.ensures.number in
+    record { step = rw (p.1, p.2) (refused-step _ _ _ f.0); state = f.1 }
 
 pub bounds-file-at : goal.bounds-file-at
 bounds-file-at c =
-    let whole = read c.args.file.now c.args.at _ c.record_form-form.ensures c.if-number-ne0.false in
+    let whole = formed c.args.file.now c.args.at c.in_ok-end.ensures.number in
     omega (arith, whole.header)
-
-pub overflow_add-map : goal.overflow_add-map
-overflow_add-map c =
-    let whole = read c.args.file.now c.args.at _ c.record_form-form.ensures c.if-number-ne0.false in
-    omega (arith, whole.header, whole.within)
 
 pub bounds-file-at-2 : goal.bounds-file-at-2
 bounds-file-at-2 c =
-    let whole = read c.args.file.now c.args.at _ c.record_form-form.ensures c.if-number-ne0.false in
+    let whole = formed c.args.file.now c.args.at c.in_ok-end.ensures.number in
     omega (arith, whole.header)
 
-pub slice_bounds-record_call-count : goal.slice_bounds-record_call-count
-slice_bounds-record_call-count c =
-    let whole = read c.args.file.now c.args.at _ c.record_form-form.ensures c.if-number-ne0.false in
+pub returns-in_err-kind : goal.returns-in_err-kind
+returns-in_err-kind c =
+    let whole = formed c.args.file.now c.args.at c.in_ok-end.ensures.number in
+    false-not-true (sym (known-formed c.args.file.now c.args.at whole) ∙ c.in_err-kind.ensures.1)
+
+pub slice_bounds-part-count : goal.slice_bounds-part-count
+slice_bounds-part-count c =
+    let whole = formed c.args.file.now c.args.at c.in_ok-end.ensures.number in
     omega (arith, whole.header)
 
-pub slice_bounds-record_call-start : goal.slice_bounds-record_call-start
-slice_bounds-record_call-start c =
-    let whole = read c.args.file.now c.args.at _ c.record_form-form.ensures c.if-number-ne0.false in
+pub slice_bounds-part-start : goal.slice_bounds-part-start
+slice_bounds-part-start c =
+    let whole = formed c.args.file.now c.args.at c.in_ok-end.ensures.number in
     omega (arith, whole.header)
 
-pub record_call-called-requires : goal.record_call-called-requires
+pub record_call-requires : goal.record_call-requires
 unfolding record_end
-record_call-called-requires c =
-    let whole = read c.args.file.now c.args.at _ c.record_form-form.ensures c.if-number-ne0.false in
+record_call-requires c =
     let a = c.args in
+    let whole = formed a.file.now a.at c.in_ok-end.ensures.number in
     let fit : size_by (map_at a.file.now a.at) (record_widths a.file.now a.at) ≤ length (drop (a.at + 2) a.file.now) = rw (length-drop (a.at + 2) a.file.now) (omega (arith, whole.fit, whole.header)) in
     let short : length (drop (a.at + 2) a.file.now) ≤ max_file = rw (length-drop (a.at + 2) a.file.now) (omega (arith, whole.within)) in
-    rw (part_to_end a.file.now (a.at + 2)) (whole.low, (whole.high, (fit, short)))
+    rw (c.in_ok-kind.ensures, part_to_end a.file.now (a.at + 2)) (record { fits = fit; short = short })
+
+pub returns-in_err-record_call : goal.returns-in_err-record_call
+returns-in_err-record_call c =
+    let a = c.args in
+    let s = given a.canvas.now a.cells.now a.labels.now in
+    let f = form-called s a.file.now a.at c.in_ok-end.ensures.number in
+    let e = called-part a.file.now a.at _ c.in_ok-kind.ensures in
+    let p = err_from_is_err_and c.from_residual-in_err-record_call.result c.from_residual-in_err-record_call.ensures.1 in
+    let h = c.in_err-record_call.ensures in
+    record { step = rw (p.1, p.2) (refused-step _ _ _ (h.refusal ∙ ap (refusal_on s) e ∙ sym f.0)); state = h.state ∙ ap (state_after s) e ∙ sym f.1 }
 
 pub returns : goal.returns
 returns c =
-    let good : 0 ≡ record_form c.args.file.now c.args.at = sym c.if-number-ne0.false ∙ form-number _ _ _ c.record_form-form.ensures in
-    let called = c.record_call-called in
     let a = c.args in
-    let r = called.ensures in
-    let call = called-part a.file.now a.at in
-    taken-called (given a.canvas a.cells.now a.labels.now) a.file.now a.at _ called.result _ _ _ good (r.0 ∙ rw (call)) (r.1.0 ∙ rw (call)) (r.1.1 ∙ rw (call)) c.step_of-step.ensures
-    (form-end _ _ _ c.record_form-form.ensures good)
+    let s = given a.canvas.now a.cells.now a.labels.now in
+    let f = form-called s a.file.now a.at c.in_ok-end.ensures.number in
+    let e = called-part a.file.now a.at _ c.in_ok-kind.ensures in
+    let h = c.in_ok-record_call.ensures in
+    record {
+      step = next-step _ _ _ (h.refusal ∙ ap (refusal_on s) e ∙ sym f.0) c.in_ok-end.ensures.end;
+      state = h.state ∙ ap (state_after s) e ∙ sym f.1;
+    }

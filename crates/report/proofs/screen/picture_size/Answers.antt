@@ -8,14 +8,14 @@ use Rattle.report.proofs.screen.picture_size.Goals as goal
 
 pub returns-then-columns-widest : goal.returns-then-columns-widest
 unfolding picture_size
-returns-then-columns-widest c = rw (sym c.number16-columns.ensures, sym c.number16-rows.ensures, c.if-columns-widest.true)
+returns-then-columns-widest c = rw (sym c.read-columns.ensures, sym c.read-rows.ensures, c.if-columns-widest.true)
 
 pub overflow_mul-result : goal.overflow_mul-result
-overflow_mul-result c = omega (arith, product-below c.number16-columns.result c.number16-rows.result (search rules) (search rules))
+overflow_mul-result c = rw (c.from.ensures, c.from-2.ensures) (omega (arith, product-below c.read-columns.result c.read-rows.result (search rules) (search rules)))
 
 pub overflow_mul-result-2 : goal.overflow_mul-result-2
-overflow_mul-result-2 c = omega (arith, product-below c.number16-columns.result c.number16-rows.result (search rules) (search rules))
+overflow_mul-result-2 c = rw (c.from.ensures, c.from-2.ensures) (omega (arith, product-below c.read-columns.result c.read-rows.result (search rules) (search rules)))
 
 pub returns : goal.returns
 unfolding picture_size
-returns c = rw (sym c.number16-columns.ensures, sym c.number16-rows.ensures, c.if-columns-widest.false)
+returns c = rw (c.from.ensures, c.from-2.ensures, sym c.read-columns.ensures, sym c.read-rows.ensures, c.if-columns-widest.false)

@@ -1,8 +1,15 @@
 -- The first line, then the cells'.
+use Rattle.std.proofs.Common.{rules, arith}
+use Rattle.text.specs.Screen.{cells_of}
 use Rattle.text.specs.Listing.{listing}
-use Rattle.text.proofs.Laid.{next, from_start}
+use Rattle.text.proofs.Lengths.{listing-fits}
+use Rattle.text.proofs.WriterSteps.{next, from_start}
 use Rattle.text.proofs.listing.write_listing.Goals as goal
 
 pub returns : goal.returns
 unfolding listing
-returns c = from_start (next c.put_first_line-next.ensures.wrote c.put_cell_lines.ensures)
+returns c =
+    let a = c.args in
+    let fits = listing-fits a.columns a.rows a.painted (cells_of a.screen.now) c.ranges.columns.fits c.ranges.rows.fits in
+    let w = from_start c.new-writer.ensures.start (next c.first_line.ensures c.cell_lines.ensures) fits in
+    (search (rules, w.0), omega (arith, w.1))

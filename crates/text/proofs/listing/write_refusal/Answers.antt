@@ -1,9 +1,13 @@
 -- The parts of the line, one after the other.
+use native.Mathlib.Omega.{arith}
+use Rattle.std.proofs.Common.{rules}
 use Rattle.text.specs.Listing.{refusal_line}
-use Rattle.text.proofs.Laid.{next, from_start}
+use Rattle.text.proofs.Lengths.{refusal-length}
+use Rattle.text.proofs.WriterSteps.{next, from_start}
 use Rattle.text.proofs.listing.write_refusal.Goals as goal
 
 pub returns : goal.returns
 unfolding refusal_line
 returns c =
-    from_start (next c.put_bytes-a.ensures (next c.put_field-b.ensures.wrote (next c.put_bytes-c.ensures c.put_field.ensures.wrote)))
+    let w = from_start c.new-writer.ensures.start (next c.bytes.ensures (next (rw c.from.ensures at c.field.ensures) (next c.bytes-2.ensures c.field-2.ensures))) (omega (arith, refusal-length c.args.number c.args.place)) in
+    (search (rules, w.0), omega (arith, w.1))

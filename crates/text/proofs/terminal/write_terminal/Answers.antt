@@ -1,27 +1,26 @@
--- After so many turns so many rows are put, each of at most 2^25 bytes. The measure is what is left of the rows.
-use mathlib.Core.Path.{◌≡◌, refl, ◌∙◌}
-use native.Mathlib.Omega.{arith}
+-- After so many turns so many rows are put.
+use mathlib.Core.Path.{◌≡◌}
+use native.Mathlib.Numerals.{add-one}
+use Rattle.std.proofs.Common.{rules, arith}
 use Rattle.text.specs.Screen.{cells_of}
 use Rattle.text.specs.Terminal.{shown_rows, terminal}
-use Rattle.text.proofs.Laid.{nothing, from_start}
-use Rattle.text.proofs.TerminalSteps.{rows_next}
+use Rattle.text.proofs.Lengths.{terminal-fits}
+use Rattle.text.proofs.WriterSteps.{nothing, next, from_start}
 use Rattle.text.proofs.terminal.write_terminal.Goals as goal
 
 pub loop-row-init : goal.loop-row-init
 unfolding shown_rows
-loop-row-init c = (omega arith, refl, omega arith, nothing _ _)
+loop-row-init c = nothing _
 
 pub loop-row-preserved : goal.loop-row-preserved
-loop-row-preserved c =
-    let a = c.args in (
-      omega arith,
-      c.put_shown_row-next.auto.out ∙ c.loop-row.invariant.1,
-      omega arith,
-      rows_next (cells_of a.screen.now) a.columns c.loop-row.row c.loop-row.invariant.3 c.put_shown_row-next.ensures.wrote,
-    )
+unfolding shown_rows
+loop-row-preserved c = rw add-one (next c.loop-row.invariant c.shown_row.ensures)
 
 pub returns : goal.returns
 unfolding terminal
 returns c =
-    let e : c.loop-row.row ≡ c.args.rows = omega arith in
-    from_start (rw e at c.loop-row.invariant.3)
+    let a = c.args in
+    let e : c.loop-row.row ≡ a.rows = omega arith in
+    let fits = terminal-fits a.columns a.rows (cells_of a.screen.now) c.ranges.columns.fits c.ranges.rows.fits in
+    let w = from_start c.new-writer.ensures.start (rw e at c.loop-row.invariant) fits in
+    (search (rules, w.0), omega (arith, w.1))

@@ -1,17 +1,18 @@
 -- The two ways out, by the laws of a point inside a regular view.
+use Rattle.std.proofs.Common.{◌∙◌}
 use Rattle.view.proofs.RegularView.{no_nan, dot-found, dot-numbers}
 use Rattle.view.proofs.point.dot_inside.Goals as goal
 
-pub whole_inside-column-requires : goal.whole_inside-column-requires
-whole_inside-column-requires c = (no_nan _ _ c.if-across-down.true).0
+pub whole_inside-requires : goal.whole_inside-requires
+whole_inside-requires c = (no_nan _ _ c.if-across-down.true).0
 
-pub whole_inside-row-requires : goal.whole_inside-row-requires
-whole_inside-row-requires c = (no_nan _ _ c.if-across-down.true).1
+pub whole_inside-requires-then-across-down : goal.whole_inside-requires-then-across-down
+whole_inside-requires-then-across-down c = (no_nan _ _ c.if-across-down.true).1
 
 pub returns-then-across-down : goal.returns-then-across-down
 returns-then-across-down c =
     let a = c.args in
-    dot-found a.f a.x a.y c.whole_inside-column.ensures c.whole_inside-row.ensures
+    dot-found a.f a.x a.y (λ a b. c.from.ensures ∙ c.whole_inside.ensures a b) (λ a b. c.from-then-across-down.ensures ∙ c.whole_inside-then-across-down.ensures a b)
 
 pub returns : goal.returns
 returns c =

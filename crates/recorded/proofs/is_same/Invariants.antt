@@ -1,9 +1,0 @@
--- Both lists are read inside their common length.
-use Rattle.std.proofs.Common.{◌-◌, ◌≤◌, length}
-use Rattle.recorded.proofs.is_same.Given as goal
-
-abbrev pub invariant-loop-i : goal.invariant-loop-i
-invariant-loop-i l = l.i ≤ length l.a
-
-abbrev pub decreases-loop-i : goal.decreases-loop-i
-decreases-loop-i l = length l.a - l.i

@@ -1,0 +1,2 @@
+-- What a reader must believe of the refusals: their numbers.
+pub mod Refusals
