@@ -6,10 +6,10 @@ use Prim.Native.Nat.{ℕ, zero, suc, ◌+◌, ◌*◌, ◌<◌}
 use native.Mathlib.Nat.{add-zero, zero-add, le_of_suc-le-suc, not-suc-le-zero}
 use lib.Dec.{leb}
 use lib.Ieee.{Float, nan, inf, fin, up, down, of_bits, add, sub, mul, div, lt, neg, of_int}
+use Rattle.std.proofs.lemmas.Bool.{and_parts}
 use Rattle.floats.specs.Truncation.{as_signed}
 use Rattle.floats.specs.Methods.{abs_of}
 use Rattle.floats.specs.Polyfills.{floor_of, sin_of, cos_of}
-use Rattle.floats.proofs.Cases.{and-true-left, and-true-right}
 use Rattle.angles.specs.Angles.{cos_at, sin_at, angles_from, angle_table}
 use Rattle.angles.proofs.AnglePlaces.{further}
 
@@ -36,8 +36,8 @@ sized-from : (k n j : ℕ) → j < n → all_at_most_one (angles_from k n) ≡ t
 sized-from k zero j h a = absurd (not-suc-le-zero h)
 sized-from k (suc n) zero h a =
     subst Sized (sym (add-zero k))
-    (record { cos = and-true-left (at_most_one (cos_at k)) _ a; sin = and-true-left (at_most_one (sin_at k)) _ (and-true-right (at_most_one (cos_at k)) _ a) })
-sized-from k (suc n) (suc j) h a = subst Sized (further k j) (sized-from (suc k) n j (le_of_suc-le-suc h) (and-true-right (at_most_one (sin_at k)) _ (and-true-right (at_most_one (cos_at k)) _ a)))
+    (record { cos = (and_parts (at_most_one (cos_at k)) _ a).0; sin = (and_parts (at_most_one (sin_at k)) _ (and_parts (at_most_one (cos_at k)) _ a).1).0 })
+sized-from k (suc n) (suc j) h a = subst Sized (further k j) (sized-from (suc k) n j (le_of_suc-le-suc h) (and_parts (at_most_one (sin_at k)) _ (and_parts (at_most_one (cos_at k)) _ a).1).1)
 
 sized : (k : ℕ) → k < 360 → Sized k
 unfolding angle_table

@@ -3,21 +3,21 @@
 // name of the program that reads.
 #![tactic(auto)]
 
-ghost use Rattle.std.specs.Prelude.{◌≡◌, ◌≤◌, length, take, IfOk, IfSome};
+ghost use Rattle.std.specs.Prelude.{◌≤◌, length, IfOk, IfSome};
 
 use std::io;
 use streams::{FILE_ROOM, Program};
 
 pub mod questions; // questions.rt: a question of so many bytes after the other
 
-// At most so many bytes of the input, at the start of a buffer. Answers how many.
-pub fn read_part<R: io::Input + Eprint>(
+// At most so many bytes of the input, in a buffer.
+pub fn read_part<'b, R: io::Input + Eprint>(
     program: &Program<'_, R>,
-    buffer: &mut [u8],
+    buffer: &'b mut [u8],
     most: usize,
-) -> io::Result<usize>
-    ensures in_buffer { IfOk result (λ count. count ≤ length buffer.new) }
-    ensures prefix { IfOk result (λ count. count ≡ length (take count buffer.new)) }
+) -> io::Result<&'b [u8]>
+    ensures in_buffer { IfOk result (λ part. length part.now ≤ length buffer.old) }
+    ensures at_most { IfOk result (λ part. length part.now ≤ most) }
 {
     let n = most.min(buffer.len());
     program.read(&mut buffer[..n])
@@ -26,22 +26,22 @@ pub fn read_part<R: io::Input + Eprint>(
 // A name's length, of one byte; none at the end of the input.
 fn read_name_length<R: io::Input + Eprint>(program: &Program<'_, R>) -> io::Result<Option<u8>> {
     let mut head = [0u8; 1];
-    let count = program.read(&mut head)?;
-    Ok(head[..count].first().copied())
+    let read = program.read(&mut head)?;
+    Ok(read.first().copied())
 }
 
-// A name, at the start of a buffer. Answers how many bytes it has, and none at the end of the input.
-pub fn read_name<R: io::Input + Eprint>(
+// A name, in a buffer; none at the end of the input.
+pub fn read_name<'b, R: io::Input + Eprint>(
     program: &Program<'_, R>,
-    name: &mut [u8; 255],
-) -> io::Result<Option<usize>>
-    ensures in_buffer { IfOk result (λ found. IfSome found (λ count. count ≤ length name.new)) }
+    buffer: &'b mut [u8; 255],
+) -> io::Result<Option<&'b [u8]>>
+    ensures { IfOk result (λ found. IfSome found (λ name. length name.now ≤ 255)) }
 {
     let Some(length) = read_name_length(program)? else {
         return Ok(None);
     };
-    let count = read_part(program, &mut *name, usize::from(length))?;
-    Ok(Some(count))
+    let name = read_part(program, &mut *buffer, usize::from(length))?;
+    Ok(Some(name))
 }
 
 // The bytes of a part that a buffer of so many did not hold, at most 65,536 of them.
@@ -58,20 +58,20 @@ fn skip_rest<R: io::Input + Eprint>(
 }
 
 // A file: its length, of four bytes, and as many of its bytes as the buffer holds. The others are skipped.
-// Answers how many bytes of it the buffer holds.
-pub fn read_file<R: io::Input + Eprint>(
+pub fn read_file<'b, R: io::Input + Eprint>(
     program: &Program<'_, R>,
-    buffer: &mut [u8],
-) -> io::Result<usize>
-    ensures in_buffer { IfOk result (λ count. count ≤ length buffer.new) }
-    ensures prefix { IfOk result (λ count. count ≡ length (take count buffer.new)) }
+    buffer: &'b mut [u8],
+) -> io::Result<&'b [u8]>
+    ensures { IfOk result (λ file. length file.now ≤ length buffer.old) }
 {
     let mut bytes = [0u8; 4];
     program.read(&mut bytes)?;
+    // By `as`, since usize has no From of u32.
     let size = u32::from_le_bytes(bytes) as usize;
-    let count = read_part(program, &mut *buffer, size)?;
-    skip_rest(program, size, buffer.len())?;
-    Ok(count)
+    let room = buffer.len();
+    let file = read_part(program, buffer, size)?;
+    skip_rest(program, size, room)?;
+    Ok(file)
 }
 
 // Prints each case of a bundle: the line `case NAME`, and what a closure prints for its file. The range
@@ -83,16 +83,15 @@ pub fn print_cases<R: io::Input + Print + Eprint, F: Fn(&[u8]) -> io::Result<()>
     requires { F.IsAlwaysCallable print_file }
 {
     for _ in 0..65536 {
-        let mut name = [0u8; 255];
-        let Some(length) = read_name(program, &mut name)? else {
+        let mut buffer = [0u8; 255];
+        let Some(name) = read_name(program, &mut buffer)? else {
             break;
         };
         program.print(b"case ")?;
-        program.print(&name[..length])?;
+        program.print(name)?;
         program.print(b"\n")?;
-        let mut file = [0u8; FILE_ROOM];
-        let count = read_file(program, &mut file)?;
-        print_file(&file[..count])?;
+        let mut room = [0u8; FILE_ROOM];
+        print_file(read_file(program, &mut room)?)?;
     }
     Ok(())
 }

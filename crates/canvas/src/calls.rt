@@ -4,7 +4,7 @@
 ghost use Rattle.std.specs.Prelude.{◌≡◌, ◌+◌, ◌^◌, ◌<◌, ◌≤◌, cond, List, length};
 ghost use Rattle.refusals.specs.Refusals.{number_of, number_in};
 ghost use Rattle.view.specs.Limits.{max_columns, max_rows, max_draws, reset};
-ghost use Rattle.shapes.specs.declared.painters.Pair.{Pair};
+ghost use Rattle.walk.specs.declared.clip.Pair.{Pair};
 ghost use Rattle.shapes.specs.declared.painters.Shape.{Shape};
 ghost use Rattle.ledger.specs.Calls.{bad_shape, bad_pairs, open_refusal, draw, points, dot, layer, marker, print, render};
 ghost use Rattle.ledger.specs.Model.{zero_canvas, open_cells, drawn_canvas, marked_cells, rendered_cells, state_after};
@@ -14,11 +14,11 @@ ghost use Rattle.canvas.specs.Results.{opened, painted, done, rendered, found};
 
 use display::labels::{choice_word, is_bad_choice, is_bad_text, put_label};
 use display::laying::{is_bad_screen, lay, passes_edge, write_labels};
-use grids::markers::{Marker, is_marker};
-use grids::painting::{cell_count, paint};
+use grids::markers::is_marker;
+use grids::painting::cell_count;
 use layers::{blank, finish_layer, reset};
 use ledger::screen::Area;
-use ledger::state::Canvas;
+use ledger::state::{Canvas, Opening};
 use limits::state::{
     is_bad_bounds, is_bad_canvas, is_bad_colour, is_bad_point, is_bad_shape, is_bad_size, is_full,
     is_outside_grid, state,
@@ -46,27 +46,20 @@ fn refuse_if(met: bool, refusal: Refusal) -> Result<(), Refusal>
 }
 
 #[tactic(auto, using(crate::proofs::Refusing::conditions), unfolding(ledger::specs::Calls::open_refusal))]
-fn open_refusal(
-    columns: u16,
-    rows: u16,
-    bounds: Bounds,
-    number: u8,
-    character: u32,
-    background: u32,
-    cells: usize,
-    labels: usize,
-) -> Result<(), Refusal>
-    ensures { number_in result ≡ open_refusal (record { columns = columns; rows = rows; bounds = bounds; marker = number; character = character; background = background }) cells labels }
+fn open_refusal(o: Opening, cells: usize, labels: usize) -> Result<(), Refusal>
+    ensures { number_in result ≡ open_refusal o cells labels }
 {
-    refuse_if(is_bad_size(columns, rows), Refusal::Size)?;
-    refuse_if(is_bad_bounds(bounds), Refusal::Number)?;
-    refuse_if(is_bad_colour(background), Refusal::Colour)?;
-    refuse_if(!is_marker(number, character), Refusal::Marker)?;
-    let n = cell_count(columns, rows);
+    refuse_if(is_bad_size(o.columns, o.rows), Refusal::Size)?;
+    refuse_if(is_bad_bounds(o.bounds), Refusal::Number)?;
+    refuse_if(is_bad_colour(o.background), Refusal::Colour)?;
+    refuse_if(!is_marker(o.marker, o.character), Refusal::Marker)?;
+    let n = cell_count(o.columns, o.rows);
     refuse_if((cells < n * 5) | (labels < 2816), Refusal::Canvas)
 }
 
-// Of a draw: of its shape it is enough whether a number is bad.
+// Of a draw: of its shape it is enough whether a number is bad. By a flag: an Option of the shape would be none
+// where a number is bad, and what the call is refused with first is said of the shape in both cases.
+#[inline(always)]
 #[tactic(auto, using(crate::proofs::Refusing::conditions), unfolding(ledger::specs::Calls::refusal))]
 pub fn draw_refusal(
     c: Canvas,
@@ -116,7 +109,7 @@ fn dot_refusal(
     state(c, cells, labels)?;
     refuse_if(is_bad_colour(colour), Refusal::Colour)?;
     refuse_if(is_full(c.draws), Refusal::Draws)?;
-    let outside = is_outside_grid(c.marker, c.columns, c.rows, column, row);
+    let outside = is_outside_grid(c, column, row);
     refuse_if(outside, Refusal::Outside)
 }
 
@@ -164,7 +157,7 @@ fn render_refusal(
     ensures { number_in result ≡ refusal_by c cells labels (render area screen.now) }
 {
     state(c, cells, labels)?;
-    refuse_if(passes_edge(c.columns, c.rows, area), Refusal::Edge)?;
+    refuse_if(passes_edge(c, area), Refusal::Edge)?;
     refuse_if(is_bad_screen(area, screen), Refusal::Screen)
 }
 
@@ -198,15 +191,11 @@ pub fn zero_canvas() -> Canvas
 pub fn painter_for(c: Canvas, colour: u32) -> Painter
     ensures { c.columns ≤ max_columns → c.rows ≤ max_rows → colour ≤ reset → result ≡ painter_of c colour }
 {
-    let marker = Marker::from(c.marker);
-    let v = view_of(c.bounds, c.columns, c.rows, marker);
-    let word = colour.wrapping_add(1);
+    let grid = c.grid();
     Painter {
-        view: v,
-        columns: c.columns,
-        rows: c.rows,
-        marker,
-        word,
+        view: view_of(c.bounds, grid),
+        grid,
+        word: colour.wrapping_add(1),
     }
 }
 
@@ -224,10 +213,9 @@ fn clear_grid(c: Canvas, cells: &mut [u32])
     ensures { cells.new ≡ marked_cells c cells.old }
 {
     if c.dirty {
-        let marker = Marker::from(c.marker);
-        finish_layer(cells, c.columns, c.rows, marker, c.character);
+        finish_layer(cells, c.grid(), c.character);
     } else {
-        reset(cells, c.columns, c.rows);
+        reset(cells, c.grid());
     }
 }
 
@@ -236,54 +224,25 @@ fn finish(c: Canvas, cells: &mut [u32])
     ensures { cells.new ≡ rendered_cells c cells.old }
 {
     if c.dirty {
-        let marker = Marker::from(c.marker);
-        finish_layer(cells, c.columns, c.rows, marker, c.character);
+        finish_layer(cells, c.grid(), c.character);
     }
 }
 
 // ---- the calls
 
-// A canvas of this size, blank in the lent store of cells, with this marker and background.
-pub fn open(
-    columns: u16,
-    rows: u16,
-    bounds: Bounds,
-    number: u8,
-    character: u32,
-    background: u32,
-    cells: &mut [u32],
-    labels: &[u32],
-) -> Result<Canvas, Refusal>
-    ensures canvas { opened result ≡ open_called (record { columns = columns; rows = rows; bounds = bounds; marker = number; character = character; background = background }) cells.old (length labels.now) }
-    ensures cells { cells.new ≡ open_cells (record { columns = columns; rows = rows; bounds = bounds; marker = number; character = character; background = background }) cells.old (length labels.now) }
+// A canvas as the opening says, blank in the lent store of cells.
+pub fn open(opening: Opening, cells: &mut [u32], labels: &[u32]) -> Result<Canvas, Refusal>
+    ensures canvas { opened result ≡ open_called opening cells.old (length labels.now) }
+    ensures cells { cells.new ≡ open_cells opening cells.old (length labels.now) }
 {
-    open_refusal(
-        columns,
-        rows,
-        bounds,
-        number,
-        character,
-        background,
-        cells.len(),
-        labels.len(),
-    )?;
-    blank(cells, columns, rows);
-    Ok(Canvas {
-        columns,
-        rows,
-        bounds,
-        marker: number,
-        character,
-        background,
-        dirty: false,
-        rendered: false,
-        labels: 0,
-        draws: 0,
-        painted: 0,
-    })
+    open_refusal(opening, cells.len(), labels.len())?;
+    let canvas = Canvas::opened(opening);
+    blank(cells, canvas.grid());
+    Ok(canvas)
 }
 
 // A shape drawn in a colour; the number of its dots.
+#[tactic(auto, using(ledger::proofs::CallFacts::calls))]
 pub fn draw(
     canvas: &mut Canvas,
     cells: &mut [u32],
@@ -304,6 +263,7 @@ pub fn draw(
 }
 
 // One dot painted: `Painter::paint` inside a draw.
+#[tactic(auto, using(ledger::proofs::CallFacts::calls))]
 pub fn dot(
     canvas: &mut Canvas,
     cells: &mut [u32],
@@ -318,34 +278,26 @@ pub fn dot(
 {
     dot_refusal(*canvas, cells.len(), labels.len(), column, row, colour)?;
     let word = colour.wrapping_add(1);
-    let marker = Marker::from(canvas.marker);
-    paint(
-        cells,
-        canvas.columns,
-        canvas.rows,
-        marker,
-        column,
-        row,
-        word,
-    );
+    canvas.grid().paint(cells, column, row, word);
     count_draw(canvas, 1);
     Ok(1)
 }
 
 // The layer saved, a clean one too, and a new one begun.
+#[tactic(auto, using(ledger::proofs::CallFacts::calls))]
 pub fn layer(canvas: &mut Canvas, cells: &mut [u32], labels: &[u32]) -> Result<(), Refusal>
     ensures answer { done result ≡ answer_on (given canvas.old cells.old labels.now) layer }
     ensures canvas { canvas.new ≡ (state_after (given canvas.old cells.old labels.now) layer).canvas }
     ensures cells { cells.new ≡ (state_after (given canvas.old cells.old labels.now) layer).cells }
 {
     state(*canvas, cells.len(), labels.len())?;
-    let marker = Marker::from(canvas.marker);
-    finish_layer(cells, canvas.columns, canvas.rows, marker, canvas.character);
+    finish_layer(cells, canvas.grid(), canvas.character);
     canvas.dirty = false;
     Ok(())
 }
 
 // A dirty layer saved, the grid cleared, and a new one begun with another marker.
+#[tactic(auto, using(ledger::proofs::CallFacts::calls))]
 pub fn marker(
     canvas: &mut Canvas,
     cells: &mut [u32],
@@ -366,6 +318,7 @@ pub fn marker(
 }
 
 // A label kept, with its place in the area.
+#[tactic(auto, using(ledger::proofs::CallFacts::calls))]
 pub fn print(
     canvas: &mut Canvas,
     cells: &[u32],
@@ -388,6 +341,7 @@ pub fn print(
 }
 
 // The picture and the labels laid on the screen; the canvas is closed.
+#[tactic(auto, using(ledger::proofs::CallFacts::calls))]
 pub fn render(
     canvas: &mut Canvas,
     cells: &mut [u32],
@@ -413,12 +367,12 @@ pub fn render(
 }
 
 // The dot of a point, as the canvas stands; it needs no store, and takes a rendered canvas too.
+#[tactic(auto, using(crate::proofs::Refusing::conditions, ledger::proofs::CallSteps::canvas_size), unfolding(ledger::specs::PointCall::point_refusal, ledger::specs::PointCall::pointed_on))]
 pub fn get_point(canvas: Canvas, x: f64, y: f64) -> Result<Option<(u16, u16)>, Refusal>
     ensures { found result ≡ pointed_on canvas x y }
 {
     refuse_if(is_bad_canvas(canvas), Refusal::Canvas)?;
     refuse_if(is_bad_point(x, y), Refusal::Number)?;
-    let marker = Marker::from(canvas.marker);
-    let v = view_of(canvas.bounds, canvas.columns, canvas.rows, marker);
+    let v = view_of(canvas.bounds, canvas.grid());
     Ok(point(v, x, y))
 }

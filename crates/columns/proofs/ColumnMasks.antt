@@ -18,9 +18,9 @@ use Rattle.columns.specs.Columns.{column_dots, column_mask, inked_down, braille_
 use Rattle.grids.proofs.Words.{foldl-append}
 use Rattle.grids.proofs.Patterns.{or_assoc}
 use Rattle.grids.proofs.DotSizes.{plain_size, cell-index-by, bit-by}
-use Rattle.grids.proofs.InkedCells.{ink-words, ink-past, dot-inked}
+use Rattle.grids.proofs.InkedCells.{ink-words, ink-past, dot-inked, not_half}
 use Rattle.grids.specs.declared.markers.Marker.{Marker}
-use Rattle.grids.specs.declared.markers.Marker.TheVariants.{Braille, Dot, Block, Bar, HalfBlock, Quadrant, Sextant, Custom}
+use Rattle.grids.specs.declared.markers.Marker.TheVariants.{Braille}
 
 -- ---- a column in two parts
 column-parts : (column row m n : ℕ) → column_dots column row (m + n) ≡ column_dots column row m ++ column_dots column (row + m) n
@@ -203,21 +203,11 @@ module _ (columns rows word column : ℕ) where
           ∙ rw (last, mask-aligned column (row + between * 4) (high % 4 + 1) (omega arith)))))
 
 -- ---- the grids of one dot a cell
-plain-other : (marker : Marker) → is_plain marker ≡ true → is_half_block marker ≡ false
-plain-other Braille plain = refl
-plain-other Dot plain = refl
-plain-other Block plain = refl
-plain-other Bar plain = refl
-plain-other HalfBlock plain = cc
-plain-other Quadrant plain = refl
-plain-other Sextant plain = refl
-plain-other Custom plain = refl
-
 pub char-rows : (marker : Marker) (columns rows word column : ℕ) (cells : List ℕ) (low high : ℕ) → is_plain marker ≡ true → low ≤ high → high * columns + column < columns * rows
     → paint_dots marker columns rows word cells (column_dots column low (high + 1 - low)) ≡ inked_down columns 1 word cells (low * columns + column) (high - low + 1)
 char-rows marker columns rows word column cells low high char le inside =
     let n : high + 1 - low ≡ (high - low + 1) * 1 = omega arith in
-    rw n (cells-inked marker columns rows word (plain-other marker char) 0 1 (low * columns + column) column low (high - low + 1) cells place mask within)
+    rw n (cells-inked marker columns rows word (not_half marker (plain_size marker char)) 0 1 (low * columns + column) column low (high - low + 1) cells place mask within)
   where
     one : dot_size marker ≡ by 1 1
     one = plain_size marker char

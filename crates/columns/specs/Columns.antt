@@ -2,7 +2,6 @@
 use Rattle.std.specs.Prelude.{ℕ, zero, suc, ◌+◌, ◌-◌, ◌*◌, ◌/◌, ◌%◌, ◌^◌, cond, List, eqb}
 use Rattle.walk.specs.Tabulate.{tabulate}
 use Rattle.walk.specs.declared.bresenham.Dot.{Dot}
-use Rattle.grids.specs.declared.markers.Marker.{Marker}
 use Rattle.grids.specs.Painting.{inked_cell, paint_dots}
 use Rattle.columns.specs.declared.Strip.{Strip}
 
@@ -33,5 +32,5 @@ braille_rows columns word cells column low high =
     word)
 
 -- a column's dots from one row to another painted one after the other
-abbrev pub strip_painted : Marker → Strip → List ℕ → List ℕ
-strip_painted marker s cells = paint_dots marker s.columns s.rows s.word cells (column_dots s.column s.low (s.high + 1 - s.low))
+abbrev pub strip_painted : Strip → List ℕ → List ℕ
+strip_painted s cells = paint_dots s.grid.marker s.grid.columns s.grid.rows s.word cells (column_dots s.column s.low (s.high + 1 - s.low))

@@ -5,7 +5,7 @@ use lib.Arith.{digits_div, digits_mod}
 use lib.Bits.{bit_or, or_add_and, and_le_l, and_le_r}
 use borrow.Author.Tests.{not-false}
 use borrow.Rule.Slice.PartMut.{put_mid, post_of}
-use Rattle.floats.proofs.Cases.{or-false-left, or-false-right}
+use Rattle.std.proofs.lemmas.Bool.{or_parts}
 use Rattle.grids.specs.Cells.{cell_at, words_at}
 use Rattle.grids.specs.declared.layer.LayerCell.{LayerCell}
 use Rattle.ledger.specs.Calls.{passes_edge, bad_screen}
@@ -21,16 +21,16 @@ use Rattle.ledger.proofs.Written.{puts-same}
 abbrev pub nothing : LayerCell
 nothing = record { symbol = 0; foreground = 0; background = 0 }
 
-pub or-zero : (a b : ℕ) → bit_or a b ≡ 0 → (a ≡ 0) × (b ≡ 0)
-or-zero a b e = (omega (arith, or_add_and a b, and_le_r a b), omega (arith, or_add_and a b, and_le_l a b))
+pub or_zero : (a b : ℕ) → bit_or a b ≡ 0 → (a ≡ 0) × (b ≡ 0)
+or_zero a b e = (omega (arith, or_add_and a b, and_le_r a b), omega (arith, or_add_and a b, and_le_l a b))
 
 pub length-part : (l : List ℕ) (a k : ℕ) → a + k ≤ length l → length (take k (drop a l)) ≡ k
 length-part l a k h = simp (length-take, length-drop) (omega arith)
 
 -- ---- a cell of the store
-pub cell-held : (cells : List ℕ) (i : ℕ) → i * 5 + 5 ≤ length cells → cell_at cells i ≡ words_at cells i
+pub cell_held : (cells : List ℕ) (i : ℕ) → i * 5 + 5 ≤ length cells → cell_at cells i ≡ words_at cells i
 unfolding cell_at
-cell-held cells i h = rw (lt-ltb i (length cells / 5) (omega arith))
+cell_held cells i h = rw (lt-ltb i (length cells / 5) (omega arith))
 
 pub picture-past : (cells : List ℕ) (i : ℕ) → length cells < i * 5 + 5 → picture_at cells i ≡ nothing
 unfolding cell_at
@@ -39,7 +39,7 @@ picture-past cells i h = let e : length cells / 5 ≤ i = omega arith in rw (le-
 picture-words : (cells : List ℕ) (i : ℕ) → i * 5 + 5 ≤ length cells
     → picture_at cells i ≡ record { symbol = get_or cells (i * 5) 0; foreground = get_or cells (i * 5 + 1) 0; background = get_or cells (i * 5 + 2) 0 }
 unfolding words_at
-picture-words cells i h = rw (cell-held cells i h)
+picture-words cells i h = rw (cell_held cells i h)
 
 module _ (cells : List ℕ) where
   -- cells without a word
@@ -139,11 +139,11 @@ next-part background pictures own words screen a k m n whole e h room all s same
 
 -- ---- the rows one after another
 module _ (columns rows : ℕ) (a : Area) (words : List ℕ) (edge : passes_edge columns rows a ≡ false) (good : bad_screen a words ≡ false) where
-  pub row-in-screen : (row : ℕ) → row < rows → (spot a 0 row + columns) * 3 ≤ length words
+  pub row_in_screen : (row : ℕ) → row < rows → (spot a 0 row + columns) * 3 ≤ length words
   unfolding spot
-  row-in-screen row h =
-      let right : a.x + columns ≤ a.columns = ltb-false _ _ (or-false-left _ _ edge) in
-      let bottom : a.y + rows ≤ a.rows = ltb-false _ _ (or-false-right (ltb a.columns (a.x + columns)) _ edge) in
+  row_in_screen row h =
+      let right : a.x + columns ≤ a.columns = ltb-false _ _ (or_parts _ _ edge).0 in
+      let bottom : a.y + rows ≤ a.rows = ltb-false _ _ (or_parts (ltb a.columns (a.x + columns)) _ edge).1 in
       let n : length words ≡ a.columns * a.rows * 3 = eqb-true _ _ (not-false _ good) in
       omega (arith, mul-le-mul {n₁ = a.y + row + 1} {m₁ = a.columns} {n₂ = a.rows} {m₂ = a.columns} (omega arith) (omega arith))
 

@@ -39,10 +39,12 @@ fn place_words(place: Option<(u16, u16)>) -> (u32, u32)
 }
 
 // The label k made this one, where the store has room for it.
+#[tactic(auto, using(ledger::proofs::Runs::sets_more))]
 pub fn put_label(labels: &mut [u32], k: u32, place: Option<(u16, u16)>, word: u32, text: &[u8])
     ensures { k * 44 + 44 ≤ length labels.old → length text.now ≤ max_text
         → labels.new ≡ put_label labels.old k (record { place = place; word = word; text = text.now }) }
 {
+    // By `as`, here and below: usize has no From of u32, and at most 40 bytes are counted.
     let at = (k as usize) * 44;
     if (at + 44 <= labels.len()) & (text.len() <= 40) {
         let (column, row) = place_words(place);

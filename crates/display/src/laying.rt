@@ -12,11 +12,11 @@ use ledger::screen::Area;
 use ledger::state::Canvas;
 
 // The area passes an edge of the screen.
-pub fn passes_edge(columns: u16, rows: u16, a: Area) -> bool
-    ensures { result ≡ passes_edge columns rows a }
+pub fn passes_edge(c: Canvas, a: Area) -> bool
+    ensures { result ≡ passes_edge c.columns c.rows a }
 {
-    (u32::from(a.columns) < u32::from(a.x) + u32::from(columns))
-        | (u32::from(a.rows) < u32::from(a.y) + u32::from(rows))
+    (u32::from(a.columns) < u32::from(a.x) + u32::from(c.columns))
+        | (u32::from(a.rows) < u32::from(a.y) + u32::from(c.rows))
 }
 
 // The screen has another number of cells than its size says.
@@ -33,7 +33,8 @@ pub fn value_or(word: u32, other: u32) -> u32
     word.checked_sub(1).unwrap_or(other)
 }
 
-// A column and row of the area, as a cell of the screen. A u32 is cast by `as`, since usize has no From of it.
+// A column and row of the area, as a cell of the screen. A u32 is cast by `as`, here and below, since usize has no From of it.
+#[tactic(auto, unfolding(ledger::specs::Model::spot))]
 fn spot_index(a: Area, column: u32, row: u32) -> usize
     ensures place { result ≡ spot a column row }
     ensures small { result < 2 ^ 50 }
@@ -43,6 +44,7 @@ fn spot_index(a: Area, column: u32, row: u32) -> usize
 }
 
 // A cell of the store laid on a cell of the screen; both are there. 'Background first, then layers'.
+#[tactic(auto, using(crate::proofs::Rows::cell_held), unfolding(grids::specs::Cells::words_at))]
 fn lay_cell(screen: &mut [u32], cells: &[u32], i: usize, background: u32)
     requires { (i * 3 + 3 ≤ length screen.old) × (i * 5 + 5 ≤ length cells.now) }
     ensures { screen.new ≡ put_on screen.old i (layered background (picture_at cells.now i) (cell_on screen.old i)) }
@@ -78,6 +80,7 @@ fn lay_blank(screen: &mut [u32], background: u32)
 }
 
 // Whether no word is set.
+#[tactic(auto, using(crate::proofs::Rows::or_zero))]
 fn is_blank(words: &[u32]) -> bool
     ensures { result ≡ true → (k : ℕ) → k < length words.now → get_or words.now k 0 ≡ 0 }
 {
@@ -125,6 +128,7 @@ fn lay_row(screen: &mut [u32], cells: &[u32], background: u32)
 }
 
 // The canvas' rows laid on a screen that the area fits, each from those of its cells that the store has.
+#[tactic(auto, using(crate::proofs::Rows::row_in_screen))]
 fn lay_rows(screen: &mut [u32], a: Area, cells: &[u32], c: Canvas)
     requires { (passes_edge c.columns c.rows a ≡ false) × (bad_screen a screen.old ≡ false) }
     ensures { screen.new ≡ laid_screen c cells.now a screen.old }
@@ -148,7 +152,7 @@ pub fn lay(screen: &mut [u32], a: Area, cells: &[u32], c: Canvas)
     ensures { passes_edge c.columns c.rows a ≡ false → bad_screen a screen.old ≡ false
         → screen.new ≡ laid_screen c cells.now a screen.old }
 {
-    if passes_edge(c.columns, c.rows, a) {
+    if passes_edge(c, a) {
         return;
     }
     if is_bad_screen(a, screen) {
@@ -157,14 +161,14 @@ pub fn lay(screen: &mut [u32], a: Area, cells: &[u32], c: Canvas)
     lay_rows(screen, a, cells, c);
 }
 
-// How many bytes of a label at this place stand in the area.
-fn fitting_bytes(columns: u16, rows: u16, column_word: u32, row: u32, length: u32) -> u32
-    ensures { result ≡ fitting_at columns rows (place_of column_word row) length }
+// How many bytes of a label at this place stand in the canvas' area.
+fn fitting_bytes(c: Canvas, column_word: u32, row: u32, length: u32) -> u32
+    ensures { result ≡ fitting_at c.columns c.rows (place_of column_word row) length }
 {
-    if (column_word == 0) | (row >= u32::from(rows)) {
+    if (column_word == 0) | (row >= u32::from(c.rows)) {
         return 0;
     }
-    let room = u32::from(columns).saturating_sub(column_word - 1);
+    let room = u32::from(c.columns).saturating_sub(column_word - 1);
     length.min(room)
 }
 
@@ -192,6 +196,7 @@ fn write_bytes(screen: &mut [u32], at: usize, bytes: &[u32], word: u32)
 }
 
 // The label k written on the screen; the number of its cells.
+#[tactic(auto, using(ledger::proofs::Written::label_writing))]
 pub fn write_label(screen: &mut [u32], a: Area, c: Canvas, labels: &[u32], k: u32) -> u32
     ensures { k * 44 + 44 ≤ length labels.now → passes_edge c.columns c.rows a ≡ false → bad_screen a screen.old ≡ false
         → (result ≡ fitting c (label_at labels.now k)) × (screen.new ≡ written_label c a screen.old (label_at labels.now k)) }
@@ -202,7 +207,7 @@ pub fn write_label(screen: &mut [u32], a: Area, c: Canvas, labels: &[u32], k: u3
     }
     let label = &labels[at..at + 44];
     let length = label[3].min(40);
-    let n = fitting_bytes(c.columns, c.rows, label[0], label[1], length);
+    let n = fitting_bytes(c, label[0], label[1], length);
     let bytes = &label[4..4 + n as usize];
     let start = spot_index(a, label[0].saturating_sub(1), label[1]);
     if start + bytes.len() <= screen.len() / 3 {
@@ -212,6 +217,7 @@ pub fn write_label(screen: &mut [u32], a: Area, c: Canvas, labels: &[u32], k: u3
 }
 
 // The labels held written on the screen, in order; the number of their cells.
+#[tactic(auto, using(ledger::proofs::Written::count_next, ledger::proofs::Written::written_next))]
 pub fn write_labels(screen: &mut [u32], a: Area, c: Canvas, labels: &[u32]) -> u32
     ensures { c.labels ≤ max_labels → max_labels * 44 ≤ length labels.now → passes_edge c.columns c.rows a ≡ false → bad_screen a screen.old ≡ false
         → (result ≡ label_cells c (held_labels labels.now c.labels)) × (screen.new ≡ foldl (written_label c a) screen.old (held_labels labels.now c.labels)) }

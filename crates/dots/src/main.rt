@@ -6,38 +6,27 @@
 use bundle::questions::{answer_questions, float_at};
 use canvas::calls::get_point;
 use form::fields::FieldValue;
-use ledger::state::Canvas;
+use ledger::state::{Canvas, Opening};
+use limits::state::RESET;
 use refusals::refusal::Refusal;
 use std::io;
 use walk::clip::Bounds;
 
 // An open canvas of the question's size, bounds and marker; with marker 8 its character is a blank.
 fn canvas_of(question: &[u8]) -> Canvas {
-    let columns = u16::read(question, 0);
-    let rows = u16::read(question, 2);
-    let left = float_at(question, 4);
-    let right = float_at(question, 12);
-    let bottom = float_at(question, 20);
-    let top = float_at(question, 28);
-    let marker = u8::read(question, 36);
-    Canvas {
-        columns,
-        rows,
+    Canvas::opened(Opening {
+        columns: u16::read(question, 0),
+        rows: u16::read(question, 2),
         bounds: Bounds {
-            left,
-            right,
-            bottom,
-            top,
+            left: float_at(question, 4),
+            right: float_at(question, 12),
+            bottom: float_at(question, 20),
+            top: float_at(question, 28),
         },
-        marker,
+        marker: u8::read(question, 36),
         character: 32,
-        background: 16777216,
-        dirty: false,
-        rendered: false,
-        labels: 0,
-        draws: 0,
-        painted: 0,
-    }
+        background: RESET,
+    })
 }
 
 fn print_answer(rt: &impl Print, found: Result<Option<(u16, u16)>, Refusal>) -> io::Result<()> {

@@ -3,19 +3,19 @@ use Prim.Native.Nat.{ℕ, min}
 use mathlib.Core.Path.{◌≡◌, ap, ◌∙◌}
 use mathlib.Core.List.{List, ◌++◌}
 use lib.ListN.{length, take, drop, take-append-drop}
+use Rattle.std.proofs.lemmas.List.{take_min, drop_min}
 use Rattle.picture.specs.Drawn.{Drawn, Refused}
 use Rattle.picture.specs.Run.{Picture, picture_of}
 use Rattle.picture.proofs.Faithful.{faithful}
 use Rattle.report.specs.Screen.{picture_size}
-use Rattle.report.proofs.Lent.{take-least, drop-least}
 use Rattle.exports.specs.Draw.{picture_onto, screen_after}
 
 module _ (file cells labels screen : List ℕ) (widest highest : ℕ) {n size : ℕ} (least : n ≡ min size (length screen)) (is : size ≡ picture_size file widest highest) where
   on-part : picture_of file widest highest cells labels (take n screen) ≡ picture_onto file widest highest cells labels screen
-  on-part = rw (least, is, take-least (picture_size file widest highest) screen)
+  on-part = rw (least, is, take_min (picture_size file widest highest) screen)
 
   rest : drop n screen ≡ drop (picture_size file widest highest) screen
-  rest = rw (least, is) (drop-least (picture_size file widest highest) screen)
+  rest = rw (least, is) (drop_min (picture_size file widest highest) screen)
 
   pub drawn-part : {drawn : Drawn} → drawn ≡ (picture_of file widest highest cells labels (take n screen)).drawn → drawn ≡ (picture_onto file widest highest cells labels screen).drawn
   drawn-part e = e ∙ ap (λ (p : Picture). p.drawn) on-part

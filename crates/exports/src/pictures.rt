@@ -8,9 +8,11 @@ ghost use Rattle.report.specs.Screen.{blank_screen, columns_of, rows_of};
 ghost use Rattle.exports.specs.Draw.{picture_onto, screen_after, draw_status, painted_after, label_cells_after, place_after, IsShown};
 
 use form::fields::FieldValue;
+use picture::opening::Largest;
 use picture::run::draw_picture;
 use report::screen::{blank_screen, picture_size};
 use text::listing::{write_listing, write_refusal};
+use text::screen::Screen;
 use text::terminal::write_terminal;
 
 // The picture's columns and rows, as the file has them; 0 where it ends before.
@@ -53,15 +55,12 @@ pub extern "C" fn mossbuckle_draw(
         × (screen.new ≡ screen_after file.now widest highest cells.old labels.old screen.old)) }
     ensures shown { (result ≡ 0 → IsShown (picture_onto file.now widest highest cells.old labels.old screen.old).drawn) × ((result ≡ 0 → ⊥) → screen.new ≡ screen.old) }
 {
-    let n = picture_size(file, widest, highest).min(screen.len());
-    let drawn = draw_picture(
-        file,
-        widest,
-        highest,
-        &mut *cells,
-        &mut *labels,
-        &mut screen[..n],
-    );
+    let largest = Largest {
+        columns: widest,
+        rows: highest,
+    };
+    let n = picture_size(file, largest).min(screen.len());
+    let drawn = draw_picture(file, largest, &mut *cells, &mut *labels, &mut screen[..n]);
     match drawn {
         Ok(rendered) => {
             *painted = rendered.painted;
@@ -88,7 +87,12 @@ pub extern "C" fn mossbuckle_listing(
     ensures { (out.new ≡ laid out.old 0 (listing columns rows painted (cells_of screen.now)))
         × (result ≡ length (listing columns rows painted (cells_of screen.now))) }
 {
-    write_listing(columns, rows, painted, screen, &mut *out)
+    let shown = Screen {
+        columns,
+        rows,
+        words: screen,
+    };
+    write_listing(shown, painted, &mut *out)
 }
 
 // The line of a refusal. Returns as mossbuckle_listing does.
@@ -111,5 +115,10 @@ pub extern "C" fn mossbuckle_terminal(
     ensures { (out.new ≡ laid out.old 0 (terminal columns rows (cells_of screen.now)))
         × (result ≡ length (terminal columns rows (cells_of screen.now))) }
 {
-    write_terminal(columns, rows, screen, &mut *out)
+    let shown = Screen {
+        columns,
+        rows,
+        words: screen,
+    };
+    write_terminal(shown, &mut *out)
 }

@@ -8,7 +8,8 @@ ghost use Rattle.words.specs.Words.{canvas_of};
 ghost use Rattle.exports.specs.GetPoint.{point_at, point_status, column_after, row_after, IsDot, IsNone};
 
 use canvas::calls::get_point;
-use ledger::state::Canvas;
+use ledger::state::{Canvas, Opening};
+use limits::state::RESET;
 use refusals::refusal::Refusal;
 use walk::clip::Bounds;
 use words::load;
@@ -68,7 +69,7 @@ pub extern "C" fn mossbuckle_get_point(
         × (row.new ≡ row_after (point_at columns rows left right bottom top marker x y) row.old)) }
     ensures dot { (result ≡ 0 → IsDot (point_at columns rows left right bottom top marker x y)) × (result ≡ 255 → IsNone (point_at columns rows left right bottom top marker x y)) }
 {
-    let canvas = Canvas {
+    let canvas = Canvas::opened(Opening {
         columns,
         rows,
         bounds: Bounds {
@@ -79,12 +80,7 @@ pub extern "C" fn mossbuckle_get_point(
         },
         marker,
         character: 32,
-        background: 16777216,
-        dirty: false,
-        rendered: false,
-        labels: 0,
-        draws: 0,
-        painted: 0,
-    };
+        background: RESET,
+    });
     put_dot(get_point(canvas, x, y), &mut *column, &mut *row)
 }

@@ -6,7 +6,7 @@ ghost use Rattle.flat.specs.Flat.{pairs_of};
 
 use lines::painter::Painter;
 use pairs::points::{ORIGIN, Paint, Pairs, paint_pairs};
-use shapes::painters::Pair;
+use walk::clip::Pair;
 
 #[derive(Clone, Copy)]
 pub struct Flat<'a> {

@@ -5,8 +5,8 @@ use lib.Ieee.{Float, nan, inf, fin, binary64, up, down, odd, of_fields, of_bits}
 use lib.Ieee.Digits.{Equals, odd_val}
 use lib.Ieee.Fits.{down_pos}
 use borrow.Author.Tests.{lt-leb}
+use Rattle.std.proofs.lemmas.Bool.{cases_lt}
 use Rattle.floats.specs.Domain.{in_domain}
-use Rattle.floats.proofs.Cases.{lt-or-le}
 
 -- ---- a float of value a / c is in the domain where a / c is at most 2 ^ 40
 scaled-le : (v d a c : ℕ) → v * c ≡ a * d → 0 < d → a ≤ 2 ^ 40 * c → v * c ≤ 2 ^ 40 * d * c
@@ -19,7 +19,7 @@ domain-value : (x : Float) (a c : ℕ) → 0 < c → Equals x a c → in_domain 
 unfolding in_domain
 domain-value nan a c C e = absurd e
 domain-value (inf s) a c C e = absurd e
-domain-value (fin s m k) a c C e = elim (lt-or-le (2 ^ 40 * c) a) [
+domain-value (fin s m k) a c C e = elim (cases_lt (2 ^ 40 * c) a) [
   | inl h ↦ rw (lt-leb _ _ h, lt-leb _ _ (lt_of_mul-lt-mul_right c (scaled-lt (m * up k) (down k) a c e (down_pos k) h)))
   | inr h ↦ rw (le-leb _ _ h, le-leb _ _ (le_of_mul-le-mul_right (scaled-le (m * up k) (down k) a c e (down_pos k) h) C))
 ]
@@ -29,7 +29,7 @@ abbrev last : ℕ
 last = 1063 * 2 ^ 52
 
 few : (x t : ℕ) → t < 2 ^ 52 → suc x * 2 ^ 52 + t ≤ last → (2 ^ 52 + t) * 2 ^ x ≤ 2 ^ 40 * 2 ^ 1074
-few x t T h = elim (lt-or-le x 1062) [
+few x t T h = elim (cases_lt x 1062) [
   | inl l ↦ le_trans (mul-le-mul_right (2 ^ x) (under t T)) (le_trans (le_of_eq (sym (pow-add 2 53 x))) (le_trans (pow_mono (sum x l)) (le_of_eq (pow-add 2 40 1074))))
   | inr l ↦ le_trans (le_of_eq (ap (λ (k : ℕ). (2 ^ 52 + t) * 2 ^ k) (at_last x t h l).0)) (le_trans (le_of_eq (ap (λ (k : ℕ). (2 ^ 52 + k) * 2 ^ 1062) (at_last x t h l).1)) (lit≤ tt))
 ]
@@ -44,7 +44,7 @@ few x t T h = elim (lt-or-le x 1062) [
     at_last x t h l = (omega arith, omega arith)
 
 many : (x t : ℕ) → last < suc x * 2 ^ 52 + t → t < 2 ^ 52 → 2 ^ 40 * 2 ^ 1074 < (2 ^ 52 + t) * 2 ^ x
-many x t h T = elim (lt-or-le 1062 x) [
+many x t h T = elim (cases_lt 1062 x) [
   | inl l ↦ lt_of_lt_of_le (lit< tt) (le_trans (mul-le-mul_right (2 ^ 1063) (more t)) (mul-le-right (2 ^ 52 + t) (pow_mono l)))
   | inr l ↦ lt_of_lt_of_le (lt_of_le_of_lt (lit≤ tt) (mul-lt-mul_of_pos_right (above x t h T l).1 (pow_pos 1062))) (le_of_eq (ap (λ (k : ℕ). (2 ^ 52 + t) * 2 ^ k) (sym (above x t h T l).0)))
 ]
@@ -89,7 +89,7 @@ fields-domain s (suc x) t X T = elim (eq-or-lt_of_le (at_most x X)) [
     infinite false = refl
 
     same : leb ((2 ^ 52 + t) * 2 ^ x) (2 ^ 40 * 2 ^ 1074) ≡ leb (suc x * 2 ^ 52 + t) last
-    same = elim (lt-or-le last (suc x * 2 ^ 52 + t)) [
+    same = elim (cases_lt last (suc x * 2 ^ 52 + t)) [
       | inl h ↦ lt-leb _ _ (many x t h T) ∙ sym (lt-leb _ _ h)
       | inr h ↦ le-leb _ _ (few x t T h) ∙ sym (le-leb _ _ h)
     ]

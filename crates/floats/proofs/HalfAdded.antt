@@ -6,12 +6,13 @@ use lib.Ieee.Fits.{down_pos}
 use lib.Ieee.Exact.{HasValue}
 use lib.Ieee.Back.{round_whole, unsigned_back}
 use borrow.Author.Tests.{lt-leb}
+use Rattle.std.proofs.lemmas.Bool.{cases_lt}
 use Rattle.floats.specs.Arithmetic.{◌⊕◌}
 use Rattle.floats.specs.Rounding.{dist, IsUnits, midway, Rounded, Rounds, fraction}
 use Rattle.floats.specs.Truncation.{whole_part, as_signed, as_unsigned, whole_of}
 use Rattle.floats.specs.Methods.{abs_of}
 use Rattle.floats.specs.Polyfills.{round_of, 0·5, 1·0}
-use Rattle.floats.proofs.Cases.{lt-or-le, true-not-false, false-not-true}
+use Rattle.floats.proofs.Cases.{true-not-false, false-not-true}
 use Rattle.floats.proofs.Truncation.{unsigned_is}
 use Rattle.floats.proofs.InDomain.{at_most}
 use Rattle.floats.proofs.Rounding.Operations.{sum-once, integer-once}
@@ -82,7 +83,7 @@ reached k n K h = go (of_int binary64 (pos n)) (integer-once (pos n))
         (le_of_mul-le-mul_right (le_trans (le_of_eq (mul_right_comm k (down e) one)) (le_trans (mul-le-mul_right (down e) l) (le_of_eq (sym i.1)))) (pow_pos 1074)))
 
     go : (r : Float) → Rounded r false n 1 → k ≤ as_unsigned 64 r
-    go r R = elim (lt-or-le (n * one) (midway * 1)) [
+    go r R = elim (cases_lt (n * one) (midway * 1)) [
       | inl l ↦
           let f = R.within l in
           let v = f.0 * 2 ^ f.1 in

@@ -7,8 +7,9 @@ use lib.Ieee.Bits.{is_true}
 use lib.Ieee.Fits.{down_pos, round_is}
 use lib.Ieee.Order.{round_mono}
 use lib.Ieee.Scale.{round_same}
+use Rattle.std.proofs.lemmas.Bool.{and_parts}
 use Rattle.floats.specs.Arithmetic.{◌⊕◌, ◌⊗◌}
-use Rattle.floats.proofs.Cases.{true-not-false, false-not-true, and-true-left, and-true-right}
+use Rattle.floats.proofs.Cases.{true-not-false, false-not-true}
 use Rattle.floats.proofs.Numbers.{IsNumber, Signed, round-signed}
 
 -- ---- what is at most another is not above it
@@ -19,16 +20,16 @@ or_cases false b h = inr h
 at-most-not-above : (s : Bool) (a : ℕ) (t : Bool) (b : ℕ) → below s a t b || level s a t b ≡ true → below t b s a ≡ false
 at-most-not-above false a false b h = elim (or_cases (ltb a b) (eqb a b && true) h) [
   | inl l ↦ le-ltb b a (le_of_lt (ltb-true a b l))
-  | inr l ↦ le-ltb b a (le_of_eq (eqb-true a b (and-true-left (eqb a b) true l)))
+  | inr l ↦ le-ltb b a (le_of_eq (eqb-true a b (and_parts _ _ l).0))
 ]
-at-most-not-above false a true b h = le-ltb 0 (b + a) (none a b (eqb-true a b (and-true-left (eqb a b) (eqb a 0) h)) (eqb-true a 0 (and-true-right (eqb a b) (eqb a 0) h)))
+at-most-not-above false a true b h = le-ltb 0 (b + a) (none a b (eqb-true a b (and_parts _ _ h).0) (eqb-true a 0 (and_parts _ _ h).1))
   where
     none : (x y : ℕ) → x ≡ y → x ≡ 0 → y + x ≤ 0
     none x y i j = omega arith
 at-most-not-above true a false b h = refl
 at-most-not-above true a true b h = elim (or_cases (ltb b a) (eqb a b && true) h) [
   | inl l ↦ le-ltb a b (le_of_lt (ltb-true b a l))
-  | inr l ↦ le-ltb a b (le_of_eq (sym (eqb-true a b (and-true-left (eqb a b) true l))))
+  | inr l ↦ le-ltb a b (le_of_eq (sym (eqb-true a b (and_parts _ _ l).0)))
 ]
 
 pub le-not-above : (x y : Float) → le x y ≡ true → lt y x ≡ false

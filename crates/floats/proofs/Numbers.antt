@@ -1,13 +1,14 @@
 -- Numbers, the floats that are no NaN. A result rounded once is a number with the exact result's sign; so a number and a finite float have a sum that is one, and two finite floats a product.
 -- Of two numbers, one that is not above the other is at most it; and only a NaN differs from itself.
-use Rattle.std.proofs.Common.{◌≡◌, ℕ, ◌+◌, ◌-◌, ◌*◌, ◌^◌, ◌<◌, ◌≤◌, Bool, true, false, cond, not, ◌&&◌, ◌||◌, T, eqb, ltb, sym, refl, ◌∙◌, subst, inl, inr, mul-pos, arith, ltb-false, eq-eqb, le-leb}
+use Rattle.std.proofs.Common.{◌≡◌, ℕ, ◌+◌, ◌-◌, ◌*◌, ◌^◌, ◌<◌, ◌≤◌, Bool, true, false, cond, ◌&&◌, ◌||◌, eqb, ltb, sym, refl, ◌∙◌, subst, inl, inr, mul-pos, arith, ltb-false, eq-eqb, le-leb}
 use mathlib.Core.Bool.{beq}
-use lib.Ieee.{Float, nan, inf, fin, binary64, up, down, unlike, round, sum, add, mul, is_nan, lt, le, eq, below, level}
+use lib.Ieee.{Float, nan, inf, fin, binary64, up, down, unlike, round, sum, add, mul, lt, le, eq, below, level}
 use lib.Ieee.Fits.{down_pos}
+use Rattle.std.proofs.lemmas.Bool.{cases_lt}
 use Rattle.floats.specs.Arithmetic.{◌⊕◌, ◌⊗◌}
 use Rattle.floats.specs.Rounding.{IsUnits, midway, Rounded, Finite}
 use Rattle.floats.specs.Domain.{in_domain}
-use Rattle.floats.proofs.Cases.{true-not-false, false-not-true, lt-or-le}
+use Rattle.floats.proofs.Cases.{true-not-false, false-not-true}
 use Rattle.floats.proofs.InDomain.{at_most, at-most'}
 use Rattle.floats.proofs.Rounding.Correct.{round-correct}
 
@@ -42,7 +43,7 @@ signed-number (inf t) s h = tt
 signed-number (fin t m e) s h = tt
 
 pub rounded-signed : (r : Float) (s : Bool) (num den : ℕ) → Rounded r s num den → Signed r s
-rounded-signed r s num den R = elim (lt-or-le (num * 2 ^ 1074) (midway * den)) [
+rounded-signed r s num den R = elim (cases_lt (num * 2 ^ 1074) (midway * den)) [
   | inl h ↦ finite r _ (R.within h).2
   | inr h ↦ subst (λ (x : Float). Signed x s) (sym (R.over h)) refl
 ]
@@ -123,9 +124,3 @@ number-equal (inf true) h = refl
 number-equal (inf false) h = refl
 number-equal (fin true m e) h = rw (eq-eqb (m * up e * down e) (m * up e * down e) refl)
 number-equal (fin false m e) h = rw (eq-eqb (m * up e * down e) (m * up e * down e) refl)
-
-pub equal_no_nan : (x : Float) → eq x x ≡ true → T (not (is_nan x))
-unfolding eq is_nan
-equal_no_nan nan h = false-not-true h
-equal_no_nan (inf s) h = tt
-equal_no_nan (fin s m e) h = tt

@@ -1,4 +1,5 @@
 -- The kit's casts of a float to an integer are these.
+use mir.ValLaws.{to_z-of_z}
 use Rattle.std.proofs.Common.{◌≡◌, ℕ, true, false, refl}
 use lib.Ieee.{Float, nan, inf, fin, to_signed, to_unsigned}
 use Rattle.floats.specs.Truncation.{as_signed, as_unsigned}
@@ -18,3 +19,6 @@ unsigned_is w (inf true) = refl
 unsigned_is w (inf false) = refl
 unsigned_is w (fin true m e) = refl
 unsigned_is w (fin false m e) = refl
+
+-- for `as_i64`: what the kit's cast gives, through 64 bits and back
+pub ruleset signed_casts = (to_z-of_z, signed_is)

@@ -10,7 +10,7 @@ use lib.Ieee.Digits.{size-le, size-lt}
 use lib.Ieee.Fits.{down_pos, kept-lt}
 use lib.Ieee.Exact.{HasValue}
 use lib.Ieee.Positive.{above, above_of_le, first_pos, le→cross}
-use Rattle.std.proofs.num.Truncating.{at_least_one, under_one, below_one, is_no_nan, cut_down}
+use Rattle.std.proofs.num.Truncating.{at_least_one, under_one, below_one, cut_down}
 use Rattle.floats.specs.Arithmetic.{◌⊕◌}
 use Rattle.floats.specs.Truncation.{as_unsigned}
 use Rattle.floats.specs.Polyfills.{round_of, 0·25, 0·5, 1·0}
@@ -113,7 +113,7 @@ moved b =
     or-one (suc (suc h)) l = absurd (omega arith)
 
 -- ---- what the function's proof cites
-module _ (x : Float) (F : T (fits binary64 x)) (some : T (le one x)) (few : T (lt x (two_to 53))) where
+module _ (x : Float) (F : fits binary64 x ≡ true) (some : T (le one x)) (few : T (lt x (two_to 53))) where
   abbrev bits : ℕ
   bits = to_bits binary64 x
 
@@ -130,7 +130,7 @@ module _ (x : Float) (F : T (fits binary64 x)) (some : T (le one x)) (few : T (l
   field-at-most-1075 = field-at-most 53 x over few
 
   cut : led bits / 2 ^ (1075 - field) ≡ to_unsigned 64 x
-  cut = rw (masked bits) at (cut_down x F some below-2^64 field-at-most-1075)
+  cut = rw (masked bits) at (cut_down x (subst T (sym F) tt) some below-2^64 field-at-most-1075)
 
   -- a lower field would shift all digits out
   field-at-least-1023 : 1023 ≤ field
@@ -141,9 +141,6 @@ module _ (x : Float) (F : T (fits binary64 x)) (some : T (le one x)) (few : T (l
 
       none : to_unsigned 64 x ≡ 0 → 1 ≤ to_unsigned 64 x → ⊥
       none e l = omega arith
-
-  pub no_nan : T (not (is_nan x))
-  no_nan = is_no_nan x F some below-2^64
 
   pub field-at-most-1086 : field ≤ 1086
   field-at-most-1086 = omega (arith, field-at-most-1075)
@@ -163,10 +160,8 @@ module _ (x : Float) (F : T (fits binary64 x)) (some : T (le one x)) (few : T (l
       apart e l = omega arith
 
 -- what the function asks, from the tests of one that calls it
-pub from-one-to-2^53 : (x : Float) (n : ℕ) → n < 2 ^ 16 → le 1·0 x ≡ true → lt x (of_int binary64 (pos n)) ≡ true → T (le one x) × T (lt x (two_to 53))
-from-one-to-2^53 x n N some h =
-    let o = at_least_one x some in
-    (o, below_power x (of_int binary64 (pos n)) n 53 (above_of_le one x tt o) (whole-value n N) (small n N) (subst T (sym h) tt))
+pub below_two_to_53 : (x : Float) (n : ℕ) → n < 2 ^ 16 → le 1·0 x ≡ true → lt x (of_int binary64 (pos n)) ≡ true → T (lt x (two_to 53))
+below_two_to_53 x n N some h = below_power x (of_int binary64 (pos n)) n 53 (above_of_le one x tt (at_least_one x some)) (whole-value n N) (small n N) (subst T (sym h) tt)
   where
     small : (k : ℕ) → k < 2 ^ 16 → k ≤ 2 ^ 53
     small k l = omega arith
@@ -257,7 +252,7 @@ module _ (x : Float) (s : ℕ) (S : s < 2 ^ 64) (w : (s + to_bits binary64 x / 2
       same : (e : ℕ) → (s + e) % 2 ^ 64 ≡ 1075 → 1012 ≤ e → e ≤ 1075 → s % 64 ≡ 1075 - e
       same e v l m = omega arith
 
-  pub shifted-small : T (fits binary64 x) → T (not (is_nan x)) → lt x 0·25 ≡ false → to_unsigned 64 x < 65536 → masked-digits % 65536 ≡ to_unsigned 64 x
+  pub shifted-small : fits binary64 x ≡ true → T (not (is_nan x)) → lt x 0·25 ≡ false → to_unsigned 64 x < 65536 → masked-digits % 65536 ≡ to_unsigned 64 x
   shifted-small F n h few = go (le 1·0 x) refl
     where
       none : (a k : ℕ) → a ≡ 0 → 0 ≡ k → a % 65536 ≡ k
@@ -289,3 +284,6 @@ rounded-sum v n N few = go (le 1·0 (v ⊕ 0·5)) (lt (v ⊕ 0·5) (of_int binar
     go false b h i = sym (below_one 64 (v ⊕ 0·5) (under_one (v ⊕ 0·5) h)) ∙ sym (half-low v h)
     go true false h i = absurd (past _ few (half-from v n N h i))
     go true true h i = unsigned_is 64 (v ⊕ 0·5) ∙ sym (half-below v n N h i).0
+
+-- for `whole_part`: its shift is by 11 to 63, and gives the whole part
+pub ruleset whole_parts = (field-at-most-1086, shift-below-64, shifted-digits)

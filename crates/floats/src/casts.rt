@@ -3,6 +3,7 @@ ghost use Rattle.std.specs.Prelude.{◌≡◌};
 ghost use Rattle.floats.specs.Truncation.{as_signed, as_unsigned, whole_of};
 
 // `x as i64`: -1.9 gives -1, a NaN 0, and 1e300 the largest i64.
+#[tactic(auto, using(crate::proofs::Truncation::signed_casts))]
 pub fn as_i64(x: f64) -> i64
     ensures { result ≡ as_signed 63 x }
 {

@@ -5,6 +5,7 @@ ghost use Rattle.floats.specs.Methods.{is_negative, abs_of, copysign_of, clamp_o
 pub const PI: f64 = 3.141592653589793;
 
 // Whether the sign of x is set; -0.0 has it set, and a NaN counts as without.
+#[tactic(auto, using(crate::proofs::Sign::sign_is, crate::proofs::Sign::no_sign))]
 pub fn is_negative(x: f64) -> bool
     ensures { result ≡ is_negative x }
 {

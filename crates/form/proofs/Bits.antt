@@ -3,8 +3,9 @@ use Rattle.std.proofs.Common.{◌≡◌, ℕ, ◌%◌, ◌<◌, ◌≤◌, true,
 use lib.Ieee.{Float, binary64, nan, inf, fin, of_bits, nan_bits, is_nan}
 use lib.Ieee.Bits.{nan_bits_is, nan_bits_above}
 use borrow.Author.Tests.{lt-leb}
+use Rattle.std.proofs.lemmas.Bool.{cases_lt}
 use Rattle.floats.specs.Domain.{in_domain}
-use Rattle.floats.proofs.Cases.{false-not-true, lt-or-le}
+use Rattle.floats.proofs.Cases.{false-not-true}
 use Rattle.floats.proofs.DomainBits.{domain-by-bits}
 
 is-nan : (x : Float) → is_nan x ≡ true → x ≡ nan
@@ -20,10 +21,10 @@ pub not-nan : (n : ℕ) → n % 9223372036854775808 ≤ 9218868437227405312 → 
 not-nan n h = nan_bits_above binary64 n ∙ le-ltb _ _ h
 
 above-not : (a b : ℕ) → ltb b a ≡ not (leb a b)
-above-not a b = elim (lt-or-le b a) [
+above-not a b = elim (cases_lt b a) [
   | inl h ↦ rw (lt-ltb b a h, lt-leb a b h)
   | inr h ↦ rw (le-ltb b a h, le-leb a b h)
 ]
 
-pub far-above : (n : ℕ) → ltb 4787326403894837248 (n % 9223372036854775808) ≡ not (in_domain (of_bits binary64 n))
-far-above n = above-not (n % 9223372036854775808) 4787326403894837248 ∙ rw (domain-by-bits n)
+pub far_above : (n : ℕ) → ltb 4787326403894837248 (n % 9223372036854775808) ≡ not (in_domain (of_bits binary64 n))
+far_above n = above-not (n % 9223372036854775808) 4787326403894837248 ∙ rw (domain-by-bits n)

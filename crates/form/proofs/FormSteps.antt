@@ -3,14 +3,14 @@ use Rattle.std.proofs.Common.{◌≡◌, ℕ, ◌+◌, ◌-◌, ◌^◌, ◌<◌
 use borrow.Author.Tests.{lt-leb, leb-true, leb-false}
 use Rattle.refusals.specs.declared.refusal.Refusal.{Refusal}
 use Rattle.refusals.specs.Refusals.{number_of}
-use Rattle.form.proofs.Refused.{some}
-use Rattle.floats.proofs.Cases.{or-false-left, or-false-right}
+use Rattle.refusals.proofs.Numbers.{some-number}
 use Rattle.grids.proofs.Cases.{cond-none}
 use Rattle.form.specs.declared.kind.Kind.{Kind}
 use Rattle.form.specs.declared.kind.Kind.TheVariants.{Line, FilledLine, Rectangle, Circle, Points, Layer, Marker, Label, Dot}
 use Rattle.form.specs.Forms.{max_file, is_unknown, kind_at, map_at, widths_of, record_widths, record_end, record_form}
 use Rattle.form.specs.Kinds.{kind_number}
 use borrow.Author.Rules.{part_to_end}
+use Rattle.std.proofs.lemmas.Bool.{or_parts}
 
 -- a record of a known kind whose map byte is there
 pub record Headed (file : List ℕ) (at : ℕ) : Type 0 where
@@ -61,8 +61,8 @@ formed file at e =
     record {
       within = ltb-false _ _ a.0;
       header = ltb-false _ _ b.0;
-      low = ltb-false _ _ (or-false-left _ _ k.0);
-      high = ltb-false _ _ (or-false-right (ltb (kind_at file at) 1) _ k.0);
+      low = ltb-false _ _ (or_parts _ _ k.0).0;
+      high = ltb-false _ _ (or_parts (ltb (kind_at file at) 1) _ k.0).1;
       fit = ltb-false _ _ f.0;
     }
 
@@ -89,7 +89,7 @@ extra-refused file at refusal g e = go (leb (2 ^ length (record_widths file at))
   where
     go : (b : Bool) → leb (2 ^ length (record_widths file at)) (map_at file at) ≡ b → number_of refusal ≡ record_form file at
     go true t = e ∙ rw t (extra-bit file at g (leb-true _ _ t))
-    go false t = absurd (some refusal (e ∙ rw t))
+    go false t = absurd (some-number refusal (e ∙ rw t))
 
 pub map-bound : (file : List ℕ) (at : ℕ) → ◌≡◌ {A = ℕ} 0 (cond (leb (2 ^ length (record_widths file at)) (map_at file at)) 16 0) → map_at file at < 2 ^ length (record_widths file at)
 map-bound file at e = leb-false _ _ (cond-none (leb (2 ^ length (record_widths file at)) (map_at file at)) 15 0 (sym e)).0

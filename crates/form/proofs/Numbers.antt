@@ -3,8 +3,8 @@ use Rattle.std.proofs.Common.{◌≡◌, ℕ, zero, suc, ◌+◌, ◌<◌, ◌�
 use Rattle.std.proofs.Common.{◌∙◌, inl, inr}
 use Rattle.std.proofs.lemmas.List.{get_or-take, get_or-drop, get_or-replicate}
 use Rattle.std.proofs.Math.ListN.{get_or-eq_default, length-replicate}
-use Rattle.floats.proofs.Cases.{lt-or-le}
 use borrow.Author.Tests.{lt-leb}
+use Rattle.std.proofs.lemmas.Bool.{cases_lt}
 use Rattle.form.specs.Fields.{little, number_at}
 
 pub whole : (part : List ℕ) (at n : ℕ) → at + n ≤ length part → number_at part at n ≡ little part at n
@@ -29,7 +29,7 @@ little-zeros size k (suc n) =
     rw (e, little-zeros size (k + 1) n)
   where
     zero-at : (size k : ℕ) → get_or (replicate {A = ℕ} size 0) k 0 ≡ 0
-    zero-at size k = elim (lt-or-le k size) [
+    zero-at size k = elim (cases_lt k size) [
       | inl h ↦ get_or-replicate size k 0 0 h
       | inr h ↦ get_or-eq_default (replicate size 0) 0 (omega (arith, length-replicate {A = ℕ} size 0))
     ]

@@ -1,5 +1,7 @@
 -- The fields of a picture file: document 01, 'Picture file (ours) and its program'.
 use Rattle.std.specs.Prelude.{ℕ, zero, suc, ◌+◌, ◌*◌, ◌/◌, ◌%◌, ◌^◌, Bool, cond, List, length, ◌==◌, nat_le, slice_index, Float}
+use Rattle.std.specs.Float.{binary64}
+use Rattle.std.specs.Float.Ieee.{to_bits}
 use Rattle.floats.specs.Arithmetic.{bits}
 
 -- 'Little-endian': the number in n bytes from a place on
@@ -25,6 +27,10 @@ number_in part at map weight width absent = cond (stands map weight) (number_at 
 
 abbrev pub float_in : List ℕ → ℕ → ℕ → ℕ → Float
 float_in part at map weight = bits (number_in part at map weight 8 0)
+
+-- the bits of a float; a NaN's are those of the quiet one
+abbrev pub bits_of : Float → ℕ
+bits_of x = to_bits binary64 x
 
 -- ---- fields one after the other from bit 0, by their widths
 

@@ -3,7 +3,7 @@
 ghost use Rattle.std.specs.Prelude.{◌≡◌, ℕ, ◌+◌, ◌*◌, ◌%◌, ◌^◌, ◌<◌, ◌≤◌, cond, not, length, Some, None, unwrap_or};
 ghost use Rattle.floats.specs.Arithmetic.{bits};
 ghost use Rattle.floats.specs.Domain.{in_domain};
-ghost use Rattle.form.specs.Fields.{little, number_at, stands, width_in, float_in};
+ghost use Rattle.form.specs.Fields.{bits_of, little, number_at, stands, width_in, float_in};
 
 // The bytes at a place, or zeros where the part ends inside them.
 fn bytes_at<const N: usize>(part: &[u8], at: usize) -> [u8; N]
@@ -16,7 +16,8 @@ fn bytes_at<const N: usize>(part: &[u8], at: usize) -> [u8; N]
     bytes
 }
 
-// What a field holds: the number in its bytes, or what that number says.
+// What a field holds: the number in its bytes, or what that number says. One impl for each number, alike but for
+// the type: no trait of the library has `from_le_bytes`, and no macro may write an impl here.
 pub trait FieldValue: Copy {
     ghost WIDTH: { ℕ };
 
@@ -98,8 +99,19 @@ pub fn from_bits(n: u64) -> f64
     f64::from_bits(n)
 }
 
+// The bits of a float; a NaN's are those of the quiet one.
+pub fn to_bits(x: f64) -> u64
+    ensures { (result ≡ bits_of x) × (bits result ≡ x) }
+{
+    if x == x {
+        return f64::to_bits(x);
+    }
+    9221120237041090560
+}
+
 // Whether the float with these bits is outside the domain. Without the sign bit a float's bits grow with
 // it, those of 2^40 are the last in the domain, and a NaN's are above all.
+#[tactic(auto, using(crate::proofs::Bits::far_above))]
 pub fn is_far(n: u64) -> bool
     ensures { result ≡ not (in_domain (bits n)) }
 {
@@ -114,8 +126,16 @@ pub fn has(map: u8, weight: u8) -> bool
     weight != 0 && map / weight % 2 == 1
 }
 
-// The fields of an opening or a record, read one after the other: the next has the bit of this weight,
-// and stands at this place.
+// What follows an opening's size or a record's kind: the map of the fields that stand, and the bytes from the
+// first of them on.
+#[derive(Clone, Copy)]
+pub struct Part<'a> {
+    pub map: u8,
+    pub bytes: &'a [u8],
+}
+
+// The fields of such a part, read one after the other: the next has the bit of this weight, and stands at this
+// place.
 #[derive(Clone, Copy)]
 pub struct Fields<'a> {
     pub part: &'a [u8],
@@ -125,12 +145,12 @@ pub struct Fields<'a> {
 }
 
 impl<'a> Fields<'a> {
-    pub fn new(map: u8, part: &'a [u8]) -> Fields<'a>
-        ensures { result ≡ record { part = part.entry; map = map; at = 0; weight = 1 } }
+    pub fn new(part: Part<'a>) -> Fields<'a>
+        ensures { result ≡ record { part = part.entry.bytes; map = part.entry.map; at = 0; weight = 1 } }
     {
         Fields {
-            part,
-            map,
+            part: part.bytes,
+            map: part.map,
             at: 0,
             weight: 1,
         }

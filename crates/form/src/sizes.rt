@@ -5,7 +5,7 @@ ghost use Rattle.form.specs.Fields.{number_at, place_of, size_by};
 ghost use Rattle.form.specs.Forms.{points_widths, pair_count, text_place, widths_of, record_end, record_form};
 ghost use Rattle.form.specs.Kinds.{kind_number};
 
-use crate::fields::{FieldValue, has};
+use crate::fields::{FieldValue, Part, has};
 use crate::kind::Kind;
 use refusals::refusal::Refusal;
 
@@ -54,20 +54,22 @@ fn list_width(part: &[u8]) -> usize
     2 + 16 * usize::from(u16::read(part, 0))
 }
 
-// How many pairs a points record has, and where its list ends.
-pub fn pair_count(map: u8, part: &[u8]) -> usize
-    ensures { result ≡ pair_count map part.now }
-{
-    if has(map, 1) {
-        return usize::from(u16::read(part, 0));
+impl Part<'_> {
+    // How many pairs a points record has, and where its list ends.
+    pub fn pair_count(self) -> usize
+        ensures { result ≡ pair_count self.entry.map self.entry.bytes.now }
+    {
+        if has(self.map, 1) {
+            return usize::from(u16::read(self.bytes, 0));
+        }
+        0
     }
-    0
-}
 
-pub fn list_end(map: u8, part: &[u8]) -> usize
-    ensures { (result ≡ place_of map (points_widths part.now) 1) × (result < 2097152) }
-{
-    size(map, &[list_width(part)])
+    pub fn list_end(self) -> usize
+        ensures { (result ≡ place_of self.entry.map (points_widths self.entry.bytes.now) 1) × (result < 2097152) }
+    {
+        size(self.map, &[list_width(self.bytes)])
+    }
 }
 
 // Where a label's text begins, with its length.
@@ -79,20 +81,21 @@ pub fn text_place(map: u8) -> usize
 
 // The bytes of the fields that stand, of a record of this kind.
 #[tactic(auto, unfolding(crate::specs::Forms::widths_of))]
-fn fields_size(kind: Kind, map: u8, part: &[u8]) -> Result<usize, Refusal>
-    ensures number { number_in result ≡ cond (nat_le (2 ^ length (widths_of (kind_number kind) map part.now)) map) 16 0 }
-    ensures value { IfOk result (λ n. n ≡ size_by map (widths_of (kind_number kind) map part.now)) }
+fn fields_size(kind: Kind, part: Part<'_>) -> Result<usize, Refusal>
+    ensures number { number_in result ≡ cond (nat_le (2 ^ length (widths_of (kind_number kind) part.entry.map part.entry.bytes.now)) part.entry.map) 16 0 }
+    ensures value { IfOk result (λ n. n ≡ size_by part.entry.map (widths_of (kind_number kind) part.entry.map part.entry.bytes.now)) }
 {
+    let map = part.map;
     match kind {
         Kind::Line => whole_size(map, &[8, 8, 8, 8, 4]),
         Kind::FilledLine => whole_size(map, &[8, 8, 8, 8, 8, 4]),
         Kind::Rectangle => whole_size(map, &[8, 8, 8, 8, 4]),
         Kind::Circle => whole_size(map, &[8, 8, 8, 4]),
-        Kind::Points => whole_size(map, &[list_width(part), 4]),
+        Kind::Points => whole_size(map, &[list_width(part.bytes), 4]),
         Kind::Layer => whole_size(map, &[]),
         Kind::Marker => whole_size(map, &[1, 4]),
         Kind::Label => {
-            let text = text_length(part, text_place(map));
+            let text = text_length(part.bytes, text_place(map));
             whole_size(map, &[8, 8, 4, 1 + text])
         }
         Kind::Dot => whole_size(map, &[4, 4, 4]),
@@ -111,9 +114,12 @@ pub fn record_form(file: &[u8], at: usize) -> Result<usize, Refusal>
         return Err(Refusal::Cut);
     }
     let kind = Kind::try_from(file[at])?;
-    let part = &file[at + 2..];
-    let size = fields_size(kind, file[at + 1], part)?;
-    if part.len() < size {
+    let part = Part {
+        map: file[at + 1],
+        bytes: &file[at + 2..],
+    };
+    let size = fields_size(kind, part)?;
+    if part.bytes.len() < size {
         return Err(Refusal::Cut);
     }
     Ok(at + 2 + size)

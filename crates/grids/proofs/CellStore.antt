@@ -1,15 +1,16 @@
 -- The store read after a cell is put, or after something is done to each of its first cells: word by word, then cell by cell, then by induction on the number of cells.
 use mathlib.Core.Path.{◌≡◌, refl, ap, ◌∙◌}
-use mathlib.Core.Bool.{Bool, true, false, cond}
+use mathlib.Core.Bool.{Bool, true, false}
 use mathlib.Core.List.{List}
 use Prim.Native.Nat.{ℕ, zero, suc, ◌+◌, ◌*◌, ◌/◌, ◌≤◌, ◌<◌}
 use native.Mathlib.Omega.{arith}
 use lib.Dec.{eqb}
 use lib.ListN.{length, get_or, set, length-set}
 use lib.Seq.{get_or-set_same, get_or-set_other}
+use Rattle.std.proofs.lemmas.Bool.Decides.{nat_tests}
 use borrow.Author.Tests.{lt-ltb, eqb-true, eqb-false}
 use Rattle.grids.specs.declared.cells.Cell.{Cell}
-use Rattle.grids.specs.Cells.{has_cell, words_at, put_words, cell_at, put_cell, each_cell}
+use Rattle.grids.specs.Cells.{words_at, put_words, cell_at, put_cell, each_cell}
 
 -- ---- the five words of a cell
 module _ (cells : List ℕ) (i : ℕ) (c : Cell) where
@@ -56,11 +57,7 @@ module _ (cells : List ℕ) (i : ℕ) (c : Cell) where
 -- ---- a cell put
 pub length-put : (cells : List ℕ) (i : ℕ) (c : Cell) → length (put_cell cells i c) ≡ length cells
 unfolding put_cell
-length-put cells i c = go (has_cell cells i)
-  where
-    go : (t : Bool) → length (cond t (put_words cells i c) cells) ≡ length cells
-    go true = length-put-words cells i c
-    go false = refl
+length-put cells i c = grind (arith, nat_tests, length-put-words)
 
 pub cell-put-same : (cells : List ℕ) (i : ℕ) (c : Cell) → i < length cells / 5 → cell_at (put_cell cells i c) i ≡ c
 unfolding cell_at put_cell
@@ -69,11 +66,7 @@ cell-put-same cells i c h =
 
 pub word-put-other : (cells : List ℕ) (i : ℕ) (c : Cell) (j : ℕ) → ((k : ℕ) → k < 5 → j ≡ i * 5 + k → ⊥) → get_or (put_cell cells i c) j 0 ≡ get_or cells j 0
 unfolding put_cell
-word-put-other cells i c j h = go (has_cell cells i)
-  where
-    go : (t : Bool) → get_or (cond t (put_words cells i c) cells) j 0 ≡ get_or cells j 0
-    go true = word-put-words cells i c j h
-    go false = refl
+word-put-other cells i c j h = grind (arith, nat_tests, word-put-words cells i c j h)
 
 pub cell-put-other : (cells : List ℕ) (i : ℕ) (c : Cell) (j : ℕ) → (j ≡ i → ⊥) → cell_at (put_cell cells i c) j ≡ cell_at cells j
 unfolding cell_at words_at

@@ -1,20 +1,21 @@
 -- A list of dots painted into the store, seen at one cell, is the dots in that cell painted there; reading its words gives what the layer's dots set.
-use mathlib.Core.Path.{◌≡◌, refl, sym, ◌∙◌}
+use mathlib.Core.Path.{◌≡◌, refl, ◌∙◌}
 use mathlib.Core.Bool.{Bool, true, false, cond, not}
+use Rattle.std.proofs.lemmas.Bool.Decides.{nat_tests}
 use mathlib.Core.List.{List, [], ◌∷◌}
 use Prim.Native.Nat.{ℕ, suc, ◌*◌, ◌≤◌, ◌<◌}
 use native.Mathlib.Omega.{arith}
 use native.Mathlib.Nat.{zero-mod, mod-eq_of_lt}
-use lib.Dec.{eqb, ltb}
+use lib.Dec.{eqb}
 use lib.ListN.{length, get_or}
 use lib.Bits.{bit_or, or_zero_l, or_zero_r}
-use borrow.Author.Tests.{ltb-true, ltb-false, eqb-true, eqb-false, ne_eqb}
+use borrow.Author.Tests.{ne_eqb}
 use Rattle.walk.specs.declared.bresenham.Dot.{Dot}
 use Rattle.grids.specs.declared.cells.Cell.{Cell}
 use Rattle.grids.specs.Lists.{foldl, keep, over}
 use Rattle.grids.specs.Markers.{is_half_block}
 use Rattle.grids.specs.Dots.{Inked, cell_index, in_cell, bit_of, pattern_of, last_ink, is_upper, is_lower, half_block_cell, set_by}
-use Rattle.grids.specs.Cells.{cell_at, put_cell}
+use Rattle.grids.specs.Cells.{cell_at}
 use Rattle.grids.specs.Painting.{with_grid, painted_cell, paint_of, paint_dots, inked, paint_inked}
 use Rattle.grids.specs.Layer.{layer_cell}
 use Rattle.grids.proofs.Words.{over_zero, over-assoc}
@@ -35,33 +36,17 @@ module _ (marker : Marker) (columns rows : ℕ) (cells : List ℕ) (column row w
 
   pub length-paint : length (paint_of marker columns rows cells column row word) ≡ length cells
   unfolding paint_of
-  length-paint = go (ltb at (columns * rows))
-    where
-      go : (t : Bool) → length (cond t (put_cell cells at (painted at)) cells) ≡ length cells
-      go true = length-put cells at (painted at)
-      go false = refl
+  length-paint = grind (arith, nat_tests, length-put)
 
   -- in its own cell it paints, and in any other it changes nothing
   pub paint-at : (i : ℕ) → i < columns * rows → columns * rows * 5 ≤ length cells
       → cell_at (paint_of marker columns rows cells column row word) i ≡ cond (eqb (cell_index marker columns column row) i) (painted_cell marker (cell_at cells i) column row word) (cell_at cells i)
   unfolding paint_of
-  paint-at i h room = go at (ltb at (columns * rows)) (eqb at i) refl refl
-    where
-      go : (n : ℕ) (t u : Bool) → ltb n (columns * rows) ≡ t → eqb n i ≡ u → cell_at (cond t (put_cell cells n (painted n)) cells) i ≡ cond u (painted i) (cell_at cells i)
-      go n true true e f =
-          let here : n ≡ i = eqb-true n i f in
-          rw here (cell-put-same cells i (painted i) (omega arith))
-      go n true false e f = cell-put-other cells n (painted n) i (λ q. eqb-false n i f (sym q))
-      go n false true e f = absurd (omega (arith, ltb-false n (columns * rows) e, eqb-true n i f))
-      go n false false e f = refl
+  paint-at i h room = grind (arith, nat_tests, cell-put-same, cell-put-other)
 
   pub paint-words-past : (j : ℕ) → columns * rows * 5 ≤ j → get_or (paint_of marker columns rows cells column row word) j 0 ≡ get_or cells j 0
   unfolding paint_of
-  paint-words-past j h = go (ltb at (columns * rows)) refl
-    where
-      go : (t : Bool) → ltb at (columns * rows) ≡ t → get_or (cond t (put_cell cells at (painted at)) cells) j 0 ≡ get_or cells j 0
-      go true e = word-put-other cells at (painted at) j (λ k l q. omega (arith, ltb-true at (columns * rows) e))
-      go false e = refl
+  paint-words-past j h = grind (arith, nat_tests, word-put-other)
 
 -- ---- the store after a list of dots
 pub length-paint-inked : (marker : Marker) (columns rows : ℕ) (dots : List Inked) (cells : List ℕ) → length (paint_inked marker columns rows cells dots) ≡ length cells

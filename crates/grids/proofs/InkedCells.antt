@@ -1,6 +1,6 @@
 -- A cell inked: of its words two change; its words, lent by themselves, come back in their place; and a dot painted on any grid but HalfBlock is its cell inked, so that the loops over dots paint as `paint_of` does.
 use mathlib.Core.Path.{◌≡◌, refl, sym, ap, ◌∙◌}
-use mathlib.Core.Bool.{Bool, true, false, cond}
+use mathlib.Core.Bool.{false, cond}
 use mathlib.Core.List.{List, ◌++◌}
 use Prim.Native.Nat.{ℕ, ◌+◌, ◌*◌, ◌-◌, ◌/◌, ◌%◌, ◌^◌, ◌<◌, ◌≤◌, min}
 use native.Mathlib.Omega.{arith}
@@ -10,7 +10,8 @@ use lib.ListN.{length, get_or, set, take, drop, length-take, length-drop}
 use lib.Seq.{set-get_or, get_or-take, get_or-drop, take-set-le, take-set-lt, drop-set-lt, drop-set-add}
 use lib.Bits.{bit_or}
 use borrow.Rule.Slice.PartMut.{put_same}
-use borrow.Author.Tests.{ltb-true, ltb-false, lt-ltb, le-ltb, eq-eqb}
+use Rattle.std.proofs.lemmas.Bool.Decides.{nat_tests}
+use borrow.Author.Tests.{lt-ltb, le-ltb, eq-eqb}
 use Rattle.grids.specs.declared.markers.Size.{Size}
 use Rattle.grids.specs.Markers.{by, dot_size, is_half_block}
 use Rattle.grids.specs.Dots.{cell_index, bit_of}
@@ -61,7 +62,7 @@ module _ (columns rows : ℕ) (cells : List ℕ) (column row word : ℕ) where
   unfolding cell_index bit_of
   braille-inked-dot h = ink-paints Braille columns rows refl cells column row word (row / 4 * columns + column / 2) refl h
 
-not_half : (marker : Marker) → dot_size marker ≡ by 1 1 → is_half_block marker ≡ false
+pub not_half : (marker : Marker) → dot_size marker ≡ by 1 1 → is_half_block marker ≡ false
 not_half Braille one = refl
 not_half Dot one = refl
 not_half Block one = refl
@@ -88,20 +89,12 @@ module _ (marker : Marker) (one : dot_size marker ≡ by 1 1) (columns rows : �
 -- the cell is none of the first `end`, or the store has it not
 pub dot-past : (cells : List ℕ) (end i bits word : ℕ) → min end (length cells / 5) ≤ i → dot_set cells end i bits word ≡ cells
 unfolding dot_set
-dot-past cells end i bits word h = go (ltb i end) refl
-  where
-    go : (t : Bool) → ltb i end ≡ t → cond t (inked_cell cells i bits word) cells ≡ cells
-    go true e = ink-past cells i bits word (omega (arith, ltb-true i end e))
-    go false e = refl
+dot-past cells end i bits word h = grind (arith, nat_tests, ink-past)
 
 -- a cell that the canvas has and the store has not stays as it is
 dot-held : (cells : List ℕ) (columns rows i bits word end : ℕ) → end ≡ cells_held cells columns rows → dot_set cells end i bits word ≡ cond (ltb i (columns * rows)) (inked_cell cells i bits word) cells
 unfolding dot_set
-dot-held cells columns rows i bits word end held = go (ltb i end) refl
-  where
-    go : (t : Bool) → ltb i end ≡ t → cond t (inked_cell cells i bits word) cells ≡ cond (ltb i (columns * rows)) (inked_cell cells i bits word) cells
-    go true e = rw (lt-ltb i (columns * rows) (omega (arith, ltb-true i end e)))
-    go false e = sym (dot-past cells (columns * rows) i bits word (omega (arith, ltb-false i end e)))
+dot-held cells columns rows i bits word end held = grind (arith, nat_tests, ink-past)
 
 -- a dot of a marker by its dots in a cell
 pub sized-paints : (marker : Marker) {w h : ℕ} → dot_size marker ≡ by w h → is_half_block marker ≡ false → (columns rows : ℕ) (cells : List ℕ) (column row word : ℕ) {end : ℕ} → end ≡ cells_held cells columns rows
@@ -119,3 +112,6 @@ braille-paints columns rows cells column row word end held =
 pub plain-paints : PlainPaints
 plain-paints marker one columns rows cells column row word end held =
     dot-held cells columns rows (row * columns + column) 1 word end held ∙ sym (plain-inked marker one columns rows cells column row word)
+
+-- ---- for `ink_within`, and for the same cell in crate columns
+pub ruleset inking = (ink-part, dot-past)

@@ -1,6 +1,5 @@
 -- Laws of the store of cells, of words, patterns and charts and of a layer's dots, which the functions' proofs and crates above cite.
 pub mod Cases
-pub mod Products
 pub mod DotSizes
 pub mod SymbolBounds
 pub mod Words

@@ -1,14 +1,19 @@
--- bit_or's laws by halves; a pattern is below its table's length, stands where there is a dot, and its bits are the places of the dots.
-use mathlib.Core.Path.{◌≡◌, refl, sym, ap, ap₂, ◌∙◌}
+-- bit_or by the bits of its numbers; a pattern is below its table's length, stands where there is a dot, and its bits are the places of the dots.
+use mathlib.Core.Path.{◌≡◌, refl, sym, ap₂, ◌∙◌}
 use mathlib.Core.Bool.{Bool, true, false, cond, ◌||◌}
 use mathlib.Core.List.{List, [], ◌∷◌}
-use Prim.Native.Nat.{ℕ, zero, suc, ◌+◌, ◌*◌, ◌/◌, ◌%◌, ◌^◌, ◌≤◌, ◌<◌, max}
+use Prim.Native.Nat.{ℕ, ◌+◌, ◌*◌, ◌/◌, ◌%◌, ◌^◌, ◌<◌, max}
 use native.Mathlib.Omega.{arith}
-use native.Mathlib.Nat.{zero-div, div-one, div-div-eq-div-mul, pow-suc, mul_comm, mod-lt}
-use lib.Dec.{eqb, eqb-suc-suc, eqb-suc-zero, eqb-zero-suc}
+use native.Mathlib.Nat.{mul_comm, mod-lt}
+use lib.Dec.{eqb}
 use lib.Arith.{digits_lt}
+use borrow.Author.Tests.{eqb-true, eqb-false}
+use Rattle.std.specs.Int.{bit_at}
+use Rattle.std.proofs.Common.{lt_of_lt_of_le}
+use Rattle.std.proofs.lemmas.Nat.{le_or_l}
+use Rattle.std.proofs.lemmas.Nat.Bits.{bit_at_or, bit_at-zero, bit_at-pow_same, bit_at-pow_other, same_from_bits}
 use lib.Pow.{pow_pos, pow-lt}
-use lib.Bits.{bit_or, or_step, or_shr, or_lt, or_zero_l, or_add_and, and_le_r}
+use lib.Bits.{bit_or, or_lt}
 use Rattle.grids.specs.declared.markers.Size.{Size}
 use Rattle.grids.specs.Markers.{dot_size, dot_columns, dot_rows}
 use Rattle.grids.specs.Symbols.{pattern_count}
@@ -21,27 +26,8 @@ any test [] = false
 any test (x ∷ xs) = test x || any test xs
 
 -- ---- bit_or
-or-half : (a b : ℕ) → bit_or a b / 2 ≡ bit_or (a / 2) (b / 2)
-or-half a b = omega (arith, or_step a b)
-
-or-odd : (a b : ℕ) → bit_or a b % 2 ≡ max (a % 2) (b % 2)
-or-odd a b = omega (arith, or_step a b)
-
-or-assoc-below : (k a b c : ℕ) → a ≤ k → bit_or (bit_or a b) c ≡ bit_or a (bit_or b c)
-or-assoc-below zero a b c h =
-    let e : a ≡ 0 = omega arith in
-    rw (e, or_zero_l b, or_zero_l (bit_or b c))
-or-assoc-below (suc k) a b c h =
-    let ih : bit_or (bit_or (a / 2) (b / 2)) (c / 2) ≡ bit_or (a / 2) (bit_or (b / 2) (c / 2)) = or-assoc-below k (a / 2) (b / 2) (c / 2) (omega arith) in
-    let l : bit_or (bit_or a b) c ≡ bit_or (bit_or (a / 2) (b / 2)) (c / 2) * 2 + max (max (a % 2) (b % 2)) (c % 2) = or_step (bit_or a b) c ∙ rw (or-half a b, or-odd a b) in
-    let r : bit_or a (bit_or b c) ≡ bit_or (a / 2) (bit_or (b / 2) (c / 2)) * 2 + max (a % 2) (max (b % 2) (c % 2)) = or_step a (bit_or b c) ∙ rw (or-half b c, or-odd b c) in
-    omega arith
-
 pub or_assoc : (a b c : ℕ) → bit_or (bit_or a b) c ≡ bit_or a (bit_or b c)
-or_assoc a b c = or-assoc-below a a b c (omega arith)
-
-pub or-pos : (a b : ℕ) → 0 < a → 0 < bit_or a b
-or-pos a b h = omega (arith, or_add_and a b, and_le_r a b)
+or_assoc a b c = same_from_bits (bit_or (bit_or a b) c) (bit_or a (bit_or b c)) (λ i. simp bit_at_or (omega arith))
 
 -- ---- a pattern's size
 abbrev HasDots : Size → Type 0
@@ -71,38 +57,24 @@ pattern_lt marker (d ∷ dots) =
 
 pub pattern-pos : (marker : Marker) (d : Inked) (dots : List Inked) → 0 < pattern_of marker (d ∷ dots)
 unfolding bit_of
-pattern-pos marker d dots = or-pos (bit_of marker d.column d.row) (pattern_of marker dots) (pow_pos _)
+pattern-pos marker d dots = lt_of_lt_of_le (pow_pos _) (le_or_l (bit_of marker d.column d.row) (pattern_of marker dots))
 
 -- ---- a pattern's bits
-abbrev bit_at : ℕ → ℕ → ℕ
-bit_at k p = (p / 2 ^ k) % 2
-
-bit-or : (k a b : ℕ) → bit_at k (bit_or a b) ≡ max (bit_at k a) (bit_at k b)
-bit-or k a b = ap (λ (n : ℕ). n % 2) (or_shr a b k) ∙ or-odd (a / 2 ^ k) (b / 2 ^ k)
-
-bit-suc : (k p : ℕ) → bit_at (suc k) p ≡ bit_at k (p / 2)
-bit-suc k p = ap (λ (n : ℕ). n % 2) (rw (pow-suc, mul_comm (2 ^ k) 2) (sym (div-div-eq-div-mul p 2 (2 ^ k))))
-
-bit-zero : (k : ℕ) → bit_at k 0 ≡ 0
-bit-zero k = rw zero-div
-
-bit-pow : (k q : ℕ) → bit_at k (2 ^ q) ≡ cond (eqb q k) 1 0
-bit-pow zero zero = refl
-bit-pow zero (suc q) = rw (div-one, eqb-suc-zero) (omega arith)
-bit-pow (suc k) zero = bit-suc k 1 ∙ bit-zero k ∙ rw eqb-zero-suc
-bit-pow (suc k) (suc q) = bit-suc k (2 ^ suc q) ∙ ap (bit_at k) halved ∙ bit-pow k q ∙ rw eqb-suc-suc
+bit-pow : (k q : ℕ) → bit_at (2 ^ q) k ≡ cond (eqb q k) 1 0
+bit-pow k q = go (eqb q k) refl
   where
-    halved : 2 ^ suc q / 2 ≡ 2 ^ q
-    halved = omega arith
+    go : (t : Bool) → eqb q k ≡ t → bit_at (2 ^ q) k ≡ cond t 1 0
+    go true e = rw (eqb-true q k e) (bit_at-pow_same k)
+    go false e = bit_at-pow_other q k (λ h. eqb-false q k e (sym h))
 
 abbrev place_of : Marker → Inked → ℕ
 place_of marker d = d.row % dot_rows marker * dot_columns marker + d.column % dot_columns marker
 
 pub pattern-bit : (marker : Marker) (dots : List Inked) (k : ℕ) → (pattern_of marker dots / 2 ^ k) % 2 ≡ cond (any (λ d. eqb (d.row % dot_rows marker * dot_columns marker + d.column % dot_columns marker) k) dots) 1 0
 unfolding bit_of
-pattern-bit marker [] k = bit-zero k
+pattern-bit marker [] k = bit_at-zero k
 pattern-bit marker (d ∷ dots) k =
-    bit-or k (bit_of marker d.column d.row) (pattern_of marker dots)
+    bit_at_or (bit_of marker d.column d.row) (pattern_of marker dots) k
     ∙ ap₂ max (bit-pow k (place_of marker d)) (pattern-bit marker dots k)
     ∙ go (eqb (place_of marker d) k) (any (λ e. eqb (place_of marker e) k) dots)
   where

@@ -1,12 +1,11 @@
 -- Every symbol is below 2^21, so that its word fits: by cases on the marker and the tests.
 use Prim.Native.Nat.{ℕ, zero, suc, ◌<◌, ◌≤◌, ◌+◌, ◌%◌, ◌^◌}
 use mathlib.Core.List.{List, [], ◌∷◌}
+use Rattle.std.proofs.lemmas.Bool.Decides.{nat_tests}
 use native.Mathlib.Nat.{mod-lt}
 use native.Mathlib.Omega.{arith}
 use lib.ListN.{get_or}
-use lib.Dec.{eqb}
 use Rattle.grids.specs.Symbols.{braille_symbol, quadrant_symbol, sextant_symbol, symbol_of, quadrants}
-use Rattle.grids.proofs.Cases.{either}
 use Rattle.grids.specs.declared.markers.Marker.{Marker}
 use Rattle.grids.specs.declared.markers.Marker.TheVariants.{Braille, Dot, Block, Bar, HalfBlock, Quadrant, Sextant, Custom}
 
@@ -33,9 +32,7 @@ quadrant-lt pattern = omega (arith, element-le quadrants (pattern % 16))
 
 sextant-lt : (pattern : ℕ) → sextant_symbol pattern < 2 ^ 21
 unfolding sextant_symbol
-sextant-lt pattern =
-    let p = pattern % 64 in
-    either Low (eqb p 21) (omega arith) (either Low (eqb p 42) (omega arith) (either Low (eqb p 63) (omega arith) (omega arith)))
+sextant-lt pattern = grind (arith, nat_tests)
 
 pub symbol-lt : (marker : Marker) (character pattern : ℕ) → character < 2 ^ 21 → symbol_of marker character pattern < 2 ^ 21
 symbol-lt Braille character pattern h = braille-lt pattern

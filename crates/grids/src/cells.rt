@@ -38,6 +38,7 @@ pub fn load(cells: &[u32], i: usize) -> Cell
 }
 
 // The cell i of the store becomes c; past the last whole cell nothing changes.
+#[tactic(auto, unfolding(crate::specs::Cells::put_cell, crate::specs::Cells::put_words))]
 pub fn store(cells: &mut [u32], i: usize, c: Cell)
     ensures { cells.new ≡ put_cell cells.old i c }
 {

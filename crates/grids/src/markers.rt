@@ -1,6 +1,6 @@
 // The markers of document 01, 'Grids'.
 ghost use Rattle.std.specs.Prelude.{◌≡◌};
-ghost use Rattle.grids.specs.Markers.{marker_of, dot_size, is_plain, is_scalar, is_marker, resolution_of};
+ghost use Rattle.grids.specs.Markers.{marker_of, dot_size, is_plain, is_scalar, is_marker};
 
 // The kind of the dots, and of the symbols that show them.
 #[derive(Clone, Copy, PartialEq, Eq, Debug)]
@@ -63,17 +63,6 @@ pub fn is_plain(marker: Marker) -> bool
         marker,
         Marker::Dot | Marker::Block | Marker::Bar | Marker::Custom
     )
-}
-
-// The dots of a grid of cells, across and down.
-pub fn resolution(marker: Marker, columns: u16, rows: u16) -> Size
-    ensures { result ≡ resolution_of marker columns rows }
-{
-    let size = dot_size(marker);
-    Size {
-        columns: u32::from(columns) * size.columns,
-        rows: u32::from(rows) * size.rows,
-    }
 }
 
 // Whether c is a Unicode scalar value: D7FF and E000 are, the numbers between are not.

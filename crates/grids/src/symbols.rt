@@ -13,6 +13,7 @@ const QUADRANTS: [u32; 16] = [
 ];
 
 // 2800 plus the weights of the dots that stand.
+#[tactic(auto, unfolding(crate::specs::Symbols::braille_symbol))]
 pub fn braille_symbol(pattern: u32) -> u32
     ensures { result ≡ braille_symbol pattern }
 {
@@ -32,6 +33,7 @@ pub fn braille_symbol(pattern: u32) -> u32
 pub fn quadrant_symbol(pattern: u32) -> u32
     ensures { result ≡ quadrant_symbol pattern }
 {
+    // By `as`, since usize has no From of u32.
     QUADRANTS[(pattern % 16) as usize]
 }
 

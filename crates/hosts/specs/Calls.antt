@@ -1,6 +1,7 @@
 -- What the contracts of the calls say: the answer, and every lent list and number after the call, by the canvas that the words mean (crate words).
 use Rattle.std.specs.Prelude.{◌≡◌, cond, List, ℕ, eqb, Float, Option, Some, None}
-use Rattle.ledger.specs.Calls.{Opening, Call, render}
+use Rattle.ledger.specs.Calls.{Call, render}
+use Rattle.ledger.specs.declared.state.Opening.{Opening}
 use Rattle.ledger.specs.Model.{refusal_on}
 use Rattle.ledger.specs.Outcomes.{answer_on, screen_on}
 use Rattle.ledger.specs.declared.screen.Area.{Area}

@@ -15,7 +15,7 @@ use canvas::calls::{
 };
 use flat::Flat;
 use ledger::screen::Area;
-use ledger::state::Canvas;
+use ledger::state::{Canvas, Opening};
 use pairs::points::points;
 use refusals::refusal::Refusal;
 use shapes::painters::Shape;
@@ -52,23 +52,20 @@ pub extern "C" fn mossbuckle_open(
     if is_short(&*canvas) {
         return 5;
     }
-    let bounds = Bounds {
-        left,
-        right,
-        bottom,
-        top,
-    };
-    let opened = open(
+    let opening = Opening {
         columns,
         rows,
-        bounds,
-        number,
+        bounds: Bounds {
+            left,
+            right,
+            bottom,
+            top,
+        },
+        marker: number,
         character,
         background,
-        &mut *cells,
-        labels,
-    );
-    match opened {
+    };
+    match open(opening, &mut *cells, labels) {
         Ok(c) => {
             keep_all(&mut *canvas, c);
             0
@@ -99,6 +96,23 @@ fn finish_painted(
     finish(&mut *words, canvas, called)
 }
 
+// A shape, drawn on the canvas that the words mean.
+fn draw_shape(
+    canvas: &mut [u64],
+    cells: &mut [u32],
+    labels: &[u32],
+    shape: Shape,
+    colour: u32,
+    painted: &mut u64,
+) -> u8
+    ensures { Drawn (host canvas.old cells.old labels.now) (draw shape colour)
+        painted.old result canvas.new cells.new painted.new }
+{
+    let mut c = load(&*canvas);
+    let called = draw(&mut c, &mut *cells, labels, shape, colour);
+    finish_painted(&mut *canvas, c, called, &mut *painted)
+}
+
 #[unsafe(no_mangle)]
 pub extern "C" fn mossbuckle_line(
     canvas: &mut [u64],
@@ -116,9 +130,7 @@ pub extern "C" fn mossbuckle_line(
         painted.old result canvas.new cells.new painted.new }
 {
     let shape = Shape::Line(Segment { x1, y1, x2, y2 });
-    let mut c = load(&*canvas);
-    let called = draw(&mut c, &mut *cells, labels, shape, colour);
-    finish_painted(&mut *canvas, c, called, &mut *painted)
+    draw_shape(canvas, cells, labels, shape, colour, painted)
 }
 
 #[unsafe(no_mangle)]
@@ -139,9 +151,7 @@ pub extern "C" fn mossbuckle_filled_line(
         painted.old result canvas.new cells.new painted.new }
 {
     let shape = Shape::FilledLine(Segment { x1, y1, x2, y2 }, fill_to_y);
-    let mut c = load(&*canvas);
-    let called = draw(&mut c, &mut *cells, labels, shape, colour);
-    finish_painted(&mut *canvas, c, called, &mut *painted)
+    draw_shape(canvas, cells, labels, shape, colour, painted)
 }
 
 #[unsafe(no_mangle)]
@@ -160,9 +170,7 @@ pub extern "C" fn mossbuckle_rectangle(
         painted.old result canvas.new cells.new painted.new }
 {
     let shape = Shape::Rectangle(x, y, width, height);
-    let mut c = load(&*canvas);
-    let called = draw(&mut c, &mut *cells, labels, shape, colour);
-    finish_painted(&mut *canvas, c, called, &mut *painted)
+    draw_shape(canvas, cells, labels, shape, colour, painted)
 }
 
 #[unsafe(no_mangle)]
@@ -180,9 +188,7 @@ pub extern "C" fn mossbuckle_circle(
         painted.old result canvas.new cells.new painted.new }
 {
     let shape = Shape::Circle(x, y, radius);
-    let mut c = load(&*canvas);
-    let called = draw(&mut c, &mut *cells, labels, shape, colour);
-    finish_painted(&mut *canvas, c, called, &mut *painted)
+    draw_shape(canvas, cells, labels, shape, colour, painted)
 }
 
 // Points at x and y by turns; a last coordinate by itself is not looked at.

@@ -7,10 +7,17 @@ ghost use Rattle.std.specs.Prelude.{◌<◌};
 
 use bundle::print_cases;
 use canvas::calls::Rendered;
+use picture::opening::Largest;
 use picture::run::{Fault, draw_picture};
 use report::screen::{blank_screen, picture_size};
 use std::io;
 use streams::Program;
+
+// Document 01's domain.
+const LARGEST: Largest = Largest {
+    columns: 200,
+    rows: 100,
+};
 
 fn mixed(digest: u64, word: u32) -> u64
     requires { digest < 4294967291 }
@@ -42,10 +49,10 @@ fn print_picture<R: Print + Eprint>(program: &Program<'_, R>, file: &[u8]) -> io
     let mut cells = [0u32; 100000];
     let mut labels = [0u32; 2816];
     let mut screen = [0u32; 60000];
-    let n = picture_size(file, 200, 100).min(screen.len());
+    let n = picture_size(file, LARGEST).min(screen.len());
     let part = &mut screen[..n];
     blank_screen(&mut *part);
-    let drawn = draw_picture(file, 200, 100, &mut cells, &mut labels, &mut *part);
+    let drawn = draw_picture(file, LARGEST, &mut cells, &mut labels, &mut *part);
     program.written(print_drawn(program.runtime, drawn, part))
 }
 

@@ -10,24 +10,17 @@ use lib.ListN.{length, get_or, set, take, drop, replicate, length-take}
 use lib.Seq.{ext_get_or, set-get_or}
 use borrow.Author.Tests.{lt-ltb, ltb-true, ltb-false}
 use Rattle.std.proofs.lemmas.List.Edits.{fill_none, fill_more}
-use Rattle.grids.specs.Cells.{words_at, put_words, cell_at, put_cell, do_cell, do_four, blank_cell, each_cell}
+use Rattle.grids.specs.Cells.{words_at, put_words, cell_at, put_cell, do_four, blank_cell, each_cell}
 use Rattle.grids.specs.declared.cells.Cell.{Cell}
 use Rattle.grids.proofs.CellStore.{word-put-other, length-each, each-past, each_in}
 
-pub each-cell-next : (f : Cell → Cell) (start : List ℕ) (i : ℕ) {cells after : List ℕ} {c d : Cell} →
-    cells ≡ each_cell f start i → c ≡ cell_at cells i → d ≡ f c → after ≡ put_cell cells i d → after ≡ each_cell f start (i + 1)
-each-cell-next f start i {cells} {after} {c} {d} before read done put = rw (add-one, put, done, read, before)
-
-pub do-four : (f : Cell → Cell) (cells : List ℕ) (i : ℕ) {a b c d : List ℕ} → a ≡ do_cell f cells i → b ≡ do_cell f a (i + 1) → c ≡ do_cell f b (i + 2) → d ≡ do_cell f c (i + 3) → d ≡ do_four f cells i
-do-four f cells i {a} {b} {c} {d} p q r s = rw (s, r, q, p)
-
-pub each-four-next : (f : Cell → Cell) (start : List ℕ) (k : ℕ) {cells after : List ℕ} → cells ≡ each_cell f start k → after ≡ do_four f cells k → after ≡ each_cell f start (k + 4)
-each-four-next f start k {cells} {after} before put =
-    let e₁ : k + 1 ≡ suc k = omega arith in
-    let e₂ : k + 2 ≡ suc (suc k) = omega arith in
-    let e₃ : k + 3 ≡ suc (suc (suc k)) = omega arith in
-    let e₄ : k + 4 ≡ suc (suc (suc (suc k))) = omega arith in
-    rw (e₄, put, before, e₁, e₂, e₃)
+pub each-four-next : (f : Cell → Cell) (start : List ℕ) (i : ℕ) → each_cell f start ((i + 1) * 4) ≡ do_four f (each_cell f start (i * 4)) (i * 4)
+each-four-next f start i =
+    let e₁ : i * 4 + 1 ≡ suc (i * 4) = omega arith in
+    let e₂ : i * 4 + 2 ≡ suc (suc (i * 4)) = omega arith in
+    let e₃ : i * 4 + 3 ≡ suc (suc (suc (i * 4))) = omega arith in
+    let e₄ : (i + 1) * 4 ≡ suc (suc (suc (suc (i * 4)))) = omega arith in
+    rw (e₄, e₁, e₂, e₃)
 
 -- ---- two stores with the same cells, and the same words past the last, are the same
 abbrev word_of : Cell → ℕ → ℕ
@@ -185,3 +178,6 @@ blanked cells n {count} {filled} held fill =
     let size : length (take (k * 5) cells) ≡ k * 5 = simp length-take (omega arith) in
     rw (fill, held, size)
     (sym (zeroed-fill cells (k * 5) (omega arith)) ∙ zeroed-cells cells k (omega arith) ∙ each-held (λ c. blank_cell) cells n)
+
+-- for the functions that loop over cells
+pub ruleset passes = (each-four-next, each-each, each-held, blanked)

@@ -9,6 +9,7 @@ use lib.Dec.{eqb}
 use lib.ListN.{length, get_or, set}
 use lib.Seq.{set-get_or, get_or-set_other}
 use borrow.Author.Tests.{lt-ltb, eqb-true, ne_eqb}
+use Rattle.std.proofs.lemmas.Bool.{and_parts}
 use Rattle.grids.specs.Lists.{over}
 use Rattle.grids.specs.Markers.{is_half_block, is_block}
 use Rattle.grids.specs.Symbols.{pattern_count, symbol_of}
@@ -19,12 +20,9 @@ use Rattle.grids.specs.Layer.{layer_cell, laid_over, saved_cell, cleared_cell, m
 use Rattle.grids.specs.declared.cells.Cell.{Cell}
 use Rattle.grids.specs.declared.layer.LayerCell.{LayerCell}
 use Rattle.grids.proofs.Cases.{either}
+use Rattle.grids.proofs.SymbolBounds.{braille-lt, read-symbol-lt}
 use Rattle.layers.proofs.CellLoops.{words_of, put-own}
 use Rattle.grids.specs.declared.markers.Marker.{Marker}
-
-both : (s t : Bool) → s && t ≡ true → (s ≡ true) × (t ≡ true)
-both true t e = (refl, e)
-both false t e = (e, (cc))
 
 -- ---- the grid's two words
 module _ (cells : List ℕ) (i : ℕ) (held : i < length cells / 5) where
@@ -55,7 +53,7 @@ module _ (marker : Marker) (character : ℕ) where
   bare-same : (c : Cell) → is_bare c ≡ true → merged_cell marker character c ≡ c
   unfolding saved_cell
   bare-same c bare =
-      let none = both (eqb c.pattern 0) (eqb c.ink 0) bare in
+      let none = and_parts (eqb c.pattern 0) (eqb c.ink 0) bare in
       let p = eqb-true c.pattern 0 none.0 in
       let q = eqb-true c.ink 0 none.1 in
       ap (λ (l : LayerCell). cleared_cell (laid_over l c)) (nothing-set c p q)
@@ -69,9 +67,9 @@ module _ (marker : Marker) (character : ℕ) where
   four-stay cells i held bare =
       let b : ℕ → Bool = λ k. is_bare (cell_at cells k) in
       let f : Cell → Cell = merged_cell marker character in
-      let threes = both ((b i && b (i + 1)) && b (i + 2)) (b (i + 3)) bare in
-      let twos = both (b i && b (i + 1)) (b (i + 2)) threes.0 in
-      let ones = both (b i) (b (i + 1)) twos.0 in
+      let threes = and_parts ((b i && b (i + 1)) && b (i + 2)) (b (i + 3)) bare in
+      let twos = and_parts (b i && b (i + 1)) (b (i + 2)) threes.0 in
+      let ones = and_parts (b i) (b (i + 1)) twos.0 in
       sym (
       ap (λ (s : List ℕ). do_cell f (do_cell f (do_cell f s (i + 1)) (i + 2)) (i + 3)) (bare-stays cells i (omega arith) ones.0)
       ∙ ap (λ (s : List ℕ). do_cell f (do_cell f s (i + 2)) (i + 3)) (bare-stays cells (i + 1) (omega arith) ones.1)
@@ -105,3 +103,10 @@ module _ (marker : Marker) (character count : ℕ) (whole : is_half_block marker
       do_cell (with_word word) cells i ≡ do_cell (merged_cell marker character) cells i
   unfolding saved_cell layer_cell
   merged-word word some e = rw (whole, no-background, patterns, pattern-at cells i held, ne_eqb _ _ some, e)
+
+-- ---- for the functions over a cell's words, those that merge cells, and those that add 1 to a symbol
+pub ruleset words = (cleared-words, pattern-at, ink-at, layer-by-words, word-laid)
+
+pub ruleset merged = (four-stay, merged-nothing, merged-word)
+
+pub ruleset symbols = (braille-lt, read-symbol-lt)

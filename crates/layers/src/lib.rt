@@ -1,7 +1,7 @@
 // What the grid being drawn sets in the picture, and the loops over a canvas' cells: save, reset, both
 // for a finished layer, and blank (the grids' `save` and `reset` of src/canvas.rs in ratatui-widgets).
-// In a LayerCell, as in the store, a word of 0 sets nothing and value + 1 sets a value. A marker and its
-// character stand side by side, as in a Canvas: a struct of both would be taken apart in every contract.
+// In a LayerCell, as in the store, a word of 0 sets nothing and value + 1 sets a value. The character goes
+// beside the marker: a canvas holds one whatever its marker is, and a grid's dots do not depend on it.
 #![tactic(auto)]
 
 ghost use Rattle.std.specs.Prelude.{◌≡◌, false, ◌&&◌, List, ℕ, suc, ◌+◌, ◌*◌, ◌/◌, ◌%◌, ◌^◌, ◌≤◌, ◌<◌, min, eqb, length};
@@ -16,7 +16,7 @@ ghost use Rattle.grids.specs.Layer.{pattern_sets, layer_cell, laid_over, saved_c
 use grids::cells::{Cell, load, store};
 use grids::layer::LayerCell;
 use grids::markers::Marker;
-use grids::painting::{cell_count, cells_held};
+use grids::painting::{Grid, cell_count};
 use grids::symbols::{braille_symbol, read_pattern, symbol};
 
 // Of a HalfBlock grid, by the inks of the two halves.
@@ -39,6 +39,7 @@ fn half_block_cell(upper: u32, lower: u32) -> LayerCell
 }
 
 // Of any other grid, by its pattern and ink.
+#[tactic(auto, using(crate::proofs::SavedCells::symbols))]
 fn pattern_cell(marker: Marker, character: u32, pattern: u32, ink: u32) -> LayerCell
     ensures { result ≡ pattern_sets marker (character % 2 ^ 21) pattern ink }
 {
@@ -93,6 +94,7 @@ fn saved_cell(marker: Marker, character: u32, c: Cell) -> Cell
 // as_chunks_mut lend in parts, the library does not say what it ends as.
 
 // The grid of a cell cleared: no ink stays. The picture's words are not touched.
+#[tactic(auto, using(crate::proofs::SavedCells::words))]
 fn clear_at(cells: &mut [u32], i: usize)
     requires { i < length cells.old / 5 }
     ensures { cells.new ≡ do_cell cleared_cell cells.old i }
@@ -103,6 +105,7 @@ fn clear_at(cells: &mut [u32], i: usize)
 }
 
 // What the grid sets in a cell, laid over its picture, and the grid cleared.
+#[tactic(auto, unfolding(grids::specs::Cells::put_cell, grids::specs::Cells::put_words, grids::specs::Cells::cell_at, grids::specs::Cells::words_at))]
 fn lay_at(cells: &mut [u32], i: usize, l: LayerCell)
     requires { i < length cells.old / 5 }
     ensures { cells.new ≡ do_cell (λ c. cleared_cell (laid_over l c)) cells.old i }
@@ -120,6 +123,7 @@ fn lay_at(cells: &mut [u32], i: usize, l: LayerCell)
 
 // Whether the grid holds nothing in a cell: by `&`, since a branch for each word would cost more than
 // reading it.
+#[tactic(auto, using(crate::proofs::SavedCells::words))]
 fn is_bare(cells: &[u32], i: usize) -> bool
     requires { i < length cells.now / 5 }
     ensures { result ≡ is_bare (cell_at cells.now i) }
@@ -142,6 +146,7 @@ fn are_bare(cells: &[u32], i: usize) -> bool
 }
 
 // A cell merged: saved, and its grid cleared.
+#[tactic(auto, using(crate::proofs::SavedCells::words), unfolding(grids::specs::Layer::saved_cell))]
 fn merge_at(cells: &mut [u32], i: usize, marker: Marker, character: u32)
     requires { i < length cells.old / 5 }
     ensures { cells.new ≡ do_cell (merged_cell marker (character % 2 ^ 21)) cells.old i }
@@ -157,6 +162,7 @@ fn merge_at(cells: &mut [u32], i: usize, marker: Marker, character: u32)
 }
 
 // A cell whose grid sets a symbol, by its word, and no background: merged.
+#[tactic(auto, using(crate::proofs::SavedCells::words))]
 fn lay_word(cells: &mut [u32], i: usize, word: u32)
     requires { i < length cells.old / 5 }
     ensures { cells.new ≡ do_cell (λ c. record { symbol = word; foreground = over c.ink c.foreground; background = c.background; pattern = 0; ink = 0 })
@@ -171,6 +177,7 @@ fn lay_word(cells: &mut [u32], i: usize, word: u32)
 }
 
 // The word of a Braille pattern's symbol.
+#[tactic(auto, using(crate::proofs::SavedCells::symbols))]
 fn braille_word(pattern: u32) -> u32
     ensures { result ≡ suc (braille_symbol pattern) }
 {
@@ -179,6 +186,7 @@ fn braille_word(pattern: u32) -> u32
 
 // A cell of a grid of so many patterns that sets no background merged: by `word_of`, the word of a
 // pattern's symbol.
+#[tactic(auto, using(crate::proofs::SavedCells::merged))]
 fn merge_symbol<const PATTERNS: u32, F: Fn(u32) -> u32>(cells: &mut [u32], i: usize, word_of: &F)
     requires held { i < length cells.old / 5 }
     requires some { 0 < PATTERNS }
@@ -218,6 +226,7 @@ fn merge_four_symbols<const PATTERNS: u32, F: Fn(u32) -> u32>(
 // Four cells merged. Without ink they stay as they are, which is the same, since 'A layer sets nothing
 // in a cell without its dots'; most cells of a layer are so, and four are tested as fast as one.
 // Braille, Dot and Custom are told apart once for the four, and not for each cell.
+#[tactic(auto, using(crate::proofs::SavedCells::merged))]
 fn merge_four(cells: &mut [u32], i: usize, marker: Marker, character: u32, word: u32)
     requires { (i + 4 ≤ length cells.old / 5) × (word ≡ suc (symbol_of marker (character % 2 ^ 21) 1)) }
     ensures { cells.new ≡ do_four (merged_cell marker (character % 2 ^ 21)) cells.old i }
@@ -238,6 +247,7 @@ fn merge_four(cells: &mut [u32], i: usize, marker: Marker, character: u32, word:
 }
 
 // The first n fours of cells merged.
+#[tactic(auto, using(crate::proofs::SavedCells::symbols, crate::proofs::CellLoops::passes))]
 fn merge_fours(cells: &mut [u32], n: usize, marker: Marker, character: u32)
     requires { n * 4 ≤ length cells.old / 5 }
     ensures { cells.new ≡ each_cell (merged_cell marker (character % 2 ^ 21)) cells.old (n * 4) }
@@ -260,58 +270,61 @@ fn merge_rest(cells: &mut [u32], from: usize, n: usize, marker: Marker, characte
 }
 
 // The grid laid over the picture, in each of the canvas' cells.
-pub fn save(cells: &mut [u32], columns: u16, rows: u16, marker: Marker, character: u32)
-    ensures { cells.new ≡ save_of marker (character % 2 ^ 21) cells.old (columns * rows) }
+pub fn save(cells: &mut [u32], grid: Grid, character: u32)
+    ensures { cells.new ≡ save_of grid.marker (character % 2 ^ 21) cells.old (grid.columns * grid.rows) }
 {
-    let n = cell_count(columns, rows);
+    let n = cell_count(grid.columns, grid.rows);
     for i in 0..n {
         let c = load(cells, i);
-        let d = saved_cell(marker, character, c);
+        let d = saved_cell(grid.marker, character, c);
         store(cells, i, d);
     }
 }
 
 // The grid cleared, in each of the canvas' cells.
-pub fn reset(cells: &mut [u32], columns: u16, rows: u16)
-    ensures { cells.new ≡ reset_of cells.old (columns * rows) }
+#[tactic(auto, using(crate::proofs::CellLoops::passes))]
+pub fn reset(cells: &mut [u32], grid: Grid)
+    ensures { cells.new ≡ reset_of cells.old (grid.columns * grid.rows) }
 {
-    let n = cells_held(cells, columns, rows);
+    let n = grid.cells_held(cells);
     for i in 0..n {
         clear_at(cells, i);
     }
 }
 
 // save and reset in one pass, four cells at a time.
-fn save_reset(cells: &mut [u32], columns: u16, rows: u16, marker: Marker, character: u32)
-    ensures { cells.new ≡ reset_of (save_of marker (character % 2 ^ 21) cells.old (columns * rows)) (columns * rows) }
+#[tactic(auto, using(crate::proofs::CellLoops::passes))]
+fn save_reset(cells: &mut [u32], grid: Grid, character: u32)
+    ensures { cells.new ≡ reset_of (save_of grid.marker (character % 2 ^ 21) cells.old (grid.columns * grid.rows)) (grid.columns * grid.rows) }
 {
-    let n = cells_held(cells, columns, rows);
+    let n = grid.cells_held(cells);
     let fours = n / 4;
-    merge_fours(cells, fours, marker, character);
-    merge_rest(cells, fours * 4, n, marker, character);
+    merge_fours(cells, fours, grid.marker, character);
+    merge_rest(cells, fours * 4, n, grid.marker, character);
 }
 
 // A layer saved, and its grid cleared: 'Each saving clears the grid'. HalfBlock, Quadrant and Sextant
 // take the two passes of the Rust. Braille and the grids of one dot a cell, which most pictures are
 // drawn on, take one: there a second pass was measured to matter.
-pub fn finish_layer(cells: &mut [u32], columns: u16, rows: u16, marker: Marker, character: u32)
-    ensures { cells.new ≡ reset_of (save_of marker (character % 2 ^ 21) cells.old (columns * rows)) (columns * rows) }
+pub fn finish_layer(cells: &mut [u32], grid: Grid, character: u32)
+    ensures { cells.new ≡ reset_of (save_of grid.marker (character % 2 ^ 21) cells.old (grid.columns * grid.rows)) (grid.columns * grid.rows) }
 {
     if matches!(
-        marker,
+        grid.marker,
         Marker::HalfBlock | Marker::Quadrant | Marker::Sextant
     ) {
-        save(cells, columns, rows, marker, character);
-        reset(cells, columns, rows);
+        save(cells, grid, character);
+        reset(cells, grid);
     } else {
-        save_reset(cells, columns, rows, marker, character);
+        save_reset(cells, grid, character);
     }
 }
 
 // The canvas' cells made blank: one fill of memory.
-pub fn blank(cells: &mut [u32], columns: u16, rows: u16)
-    ensures { cells.new ≡ blank_of cells.old (columns * rows) }
+#[tactic(auto, using(crate::proofs::CellLoops::passes))]
+pub fn blank(cells: &mut [u32], grid: Grid)
+    ensures { cells.new ≡ blank_of cells.old (grid.columns * grid.rows) }
 {
-    let n = cells_held(cells, columns, rows) * 5;
+    let n = grid.cells_held(cells) * 5;
     cells[..n].fill(0);
 }

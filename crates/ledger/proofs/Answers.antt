@@ -1,10 +1,8 @@
 -- The model's replies are the answers of the calls' contracts, and the report's label cells are at most the shown labels' lengths.
 use mathlib.Core.Path.{◌≡◌, refl}
-use mathlib.Core.Bool.{Bool, true, false, cond}
 use mathlib.Core.List.{List, [], ◌∷◌}
-use Prim.Native.Nat.{ℕ, zero, suc, ◌-◌, ◌≤◌, min}
+use Prim.Native.Nat.{ℕ, zero, suc, ◌-◌, ◌≤◌}
 use native.Mathlib.Omega.{arith}
-use lib.Dec.{ltb}
 use lib.ListN.{length}
 use Rattle.std.specs.Prelude.{Option, Some, None}
 use Rattle.ledger.specs.Screen.{cell_on, Placed}
@@ -12,6 +10,7 @@ use Rattle.ledger.specs.Calls.{Call, draw, points, dot, layer, marker, print, re
 use Rattle.ledger.specs.Ledger.{unless, reply_unless}
 use Rattle.ledger.specs.Model.{State, refusal_on, reply_on, reply_after, screen_after, fitting_at, label_cells}
 use Rattle.ledger.specs.Outcomes.{accepted_answer, answer_unless, answer_on, reply_of, screen_left}
+use Rattle.ledger.proofs.Fitting.{fitting-at-most}
 use Rattle.ledger.specs.Promise.{length_at, shown_lengths}
 use Rattle.ledger.specs.declared.state.Canvas.{Canvas}
 
@@ -41,11 +40,7 @@ answers-are s (render area words) = go (refusal_on s (render area words))
 
 fitting-short : (columns rows : ℕ) (f : Option (ℕ × ℕ)) (n : ℕ) → fitting_at columns rows f n ≤ length_at f n
 fitting-short columns rows None n = omega arith
-fitting-short columns rows (Some (column, row)) n = go (ltb row rows)
-  where
-    go : (t : Bool) → cond t (min n (columns - column)) 0 ≤ n
-    go true = omega arith
-    go false = omega arith
+fitting-short columns rows (Some (column, row)) n = fitting-at-most columns rows (suc column) row n
 
 pub label-cells-few : (c : Canvas) (labels : List Placed) → label_cells c labels ≤ shown_lengths labels
 label-cells-few c [] = omega arith

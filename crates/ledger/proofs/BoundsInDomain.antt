@@ -2,8 +2,8 @@
 use mathlib.Core.Path.{◌≡◌}
 use mathlib.Core.Bool.{false, ◌&&◌}
 use borrow.Author.Tests.{not-false}
+use Rattle.std.proofs.lemmas.Bool.{and_parts}
 use Rattle.floats.specs.Domain.{in_domain}
-use Rattle.floats.proofs.Cases.{and-true-left, and-true-right}
 use Rattle.walk.specs.declared.clip.Bounds.{Bounds}
 use Rattle.ledger.specs.Calls.{bad_bounds}
 use Rattle.view.proofs.ClampIdle.{InDomain}
@@ -13,11 +13,11 @@ bounds-in-domain b h =
     let sides = in_domain b.left && in_domain b.right in
     let ends = in_domain b.bottom && in_domain b.top in
     let all = not-false (sides && ends) h in
-    let s = and-true-left sides ends all in
-    let e = and-true-right sides ends all in
+    let s = (and_parts sides ends all).0 in
+    let e = (and_parts sides ends all).1 in
     record {
-      left = and-true-left (in_domain b.left) (in_domain b.right) s;
-      right = and-true-right (in_domain b.left) (in_domain b.right) s;
-      bottom = and-true-left (in_domain b.bottom) (in_domain b.top) e;
-      top = and-true-right (in_domain b.bottom) (in_domain b.top) e;
+      left = (and_parts (in_domain b.left) (in_domain b.right) s).0;
+      right = (and_parts (in_domain b.left) (in_domain b.right) s).1;
+      bottom = (and_parts (in_domain b.bottom) (in_domain b.top) e).0;
+      top = (and_parts (in_domain b.bottom) (in_domain b.top) e).1;
     }

@@ -18,5 +18,6 @@ pub mod Reorder
 pub mod CallSteps
 pub mod PaintSteps
 pub mod LabelSteps
+pub mod CallFacts
 pub mod Answers
 pub mod Promise

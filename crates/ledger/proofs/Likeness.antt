@@ -10,7 +10,8 @@ use Rattle.grids.specs.declared.markers.Marker.{Marker}
 use Rattle.grids.specs.declared.layer.LayerCell.{LayerCell}
 use Rattle.grids.proofs.OneInk.{layer-swap}
 use Rattle.lines.specs.Painted.{flat}
-use Rattle.ledger.specs.Calls.{Opening, Call, draw, points, dot, layer, marker, print, render}
+use Rattle.ledger.specs.Calls.{Call, draw, points, dot, layer, marker, print, render}
+use Rattle.ledger.specs.declared.state.Opening.{Opening}
 use Rattle.ledger.specs.Ledger.{Layer, Label, Ledger, layers, layer_at, picture_of, screen_cell, painted_in, refusal_in, with_dots, added_dots, accepted, Reply, painted, shown, reply, unless, reply_unless, ledger_after, ledger_reply, ledger_replies}
 use Rattle.ledger.specs.declared.screen.Area.{Area}
 use Rattle.ledger.proofs.Exchanges.{Exchanged, ex-none, ex-same, ex-swap, ex-both, exchanged-refl, exchanged-back, exchanged-length}

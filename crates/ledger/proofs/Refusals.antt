@@ -8,12 +8,13 @@ use lib.Ieee.{Float}
 use lib.ListN.{length}
 use borrow.Author.Tests.{ltb-false, leb-true, leb-false, lt-leb, eqb-true, not-false}
 use Rattle.std.specs.Prelude.{Option}
-use Rattle.floats.proofs.Cases.{and-true-left, and-true-right, or-false-left, or-false-right}
+use Rattle.std.proofs.lemmas.Bool.{and_parts, or_parts}
 use Rattle.grids.specs.Markers.{is_marker}
 use Rattle.grids.proofs.Cases.{cond-none}
 use Rattle.view.specs.Limits.{max_columns, max_rows, max_draws, max_pairs, max_labels, max_text}
-use Rattle.shapes.specs.declared.painters.Pair.{Pair}
-use Rattle.ledger.specs.Calls.{Opening, Call, draw, points, dot, layer, marker, print, render, bad_size, bad_bounds, bad_colour, bad_shape, bad_pairs, bad_point, bad_choice, bad_text, bad_bytes, passes_edge, bad_screen, refusal, open_refusal}
+use Rattle.walk.specs.declared.clip.Pair.{Pair}
+use Rattle.ledger.specs.Calls.{Call, draw, points, dot, layer, marker, print, render, bad_size, bad_bounds, bad_colour, bad_shape, bad_pairs, bad_point, bad_choice, bad_text, bad_bytes, passes_edge, bad_screen, refusal, open_refusal}
+use Rattle.ledger.specs.declared.state.Opening.{Opening}
 use Rattle.shapes.specs.declared.painters.Shape.{Shape}
 use Rattle.ledger.specs.declared.screen.Area.{Area}
 use Rattle.ledger.proofs.DotCounts.{FewPairs}
@@ -37,8 +38,8 @@ pub record GoodOpening (o : Opening) : Type 0 where
 pub size-within : (o : Opening) → GoodOpening o → (o.columns ≤ max_columns) × (o.rows ≤ max_rows)
 size-within o good =
     let both = not-false _ good.size in (
-      leb-true o.columns max_columns (and-true-right (leb 1 o.columns) _ (and-true-left (leb 1 o.columns && leb o.columns max_columns) _ both)),
-      leb-true o.rows max_rows (and-true-right (leb 1 o.rows) _ (and-true-right (leb 1 o.columns && leb o.columns max_columns) _ both)),
+      leb-true o.columns max_columns (and_parts (leb 1 o.columns) _ (and_parts (leb 1 o.columns && leb o.columns max_columns) _ both).0).1,
+      leb-true o.rows max_rows (and_parts (leb 1 o.rows) _ (and_parts (leb 1 o.columns && leb o.columns max_columns) _ both).1).1,
     )
 
 pub open-accepted : (o : Opening) (cells labels : ℕ) → open_refusal o cells labels ≡ 0 → GoodOpening o × (o.columns * o.rows * 5 ≤ cells) × (max_labels * 44 ≤ labels)
@@ -50,8 +51,8 @@ open-accepted o cells labels e =
     let e₄ = cond-none (not (is_marker o.marker o.character)) 3 _ e₃.1 in
     let short = (cond-none (ltb cells (o.columns * o.rows * 5) || ltb labels (max_labels * 44)) 4 _ e₄.1).0 in (
       record { size = e₁.0; bounds = e₂.0; colour = e₃.0; marker = not-false _ e₄.0 },
-      ltb-false cells (o.columns * o.rows * 5) (or-false-left (ltb cells (o.columns * o.rows * 5)) _ short),
-      ltb-false labels (max_labels * 44) (or-false-right (ltb cells (o.columns * o.rows * 5)) _ short),
+      ltb-false cells (o.columns * o.rows * 5) (or_parts (ltb cells (o.columns * o.rows * 5)) _ short).0,
+      ltb-false labels (max_labels * 44) (or_parts (ltb cells (o.columns * o.rows * 5)) _ short).1,
     )
 
 -- ---- a call
@@ -78,7 +79,7 @@ module _ (o : Opening) (held n m : ℕ) where
   unfolding refusal
   print-fits x y text choice e =
       let e₁ = cond-none (bad_text text) 9 _ (cond-none (bad_choice choice) 2 _ (cond-none (bad_point x y) 1 _ e).1).1 in (
-        ltb-false max_text (length text) (or-false-left (ltb max_text (length text)) (bad_bytes text) e₁.0),
+        ltb-false max_text (length text) (or_parts (ltb max_text (length text)) (bad_bytes text) e₁.0).0,
         leb-false max_labels n (cond-none (leb max_labels n) 10 _ e₁.1).0,
       )
 
@@ -88,8 +89,8 @@ module _ (o : Opening) (held n m : ℕ) where
   render-fits area words e =
       let e₁ = cond-none (passes_edge o.columns o.rows area) 11 _ e in
       let e₂ = cond-none (bad_screen area words) 12 _ e₁.1 in (
-        ltb-false area.columns (area.x + o.columns) (or-false-left (ltb area.columns (area.x + o.columns)) _ e₁.0),
-        ltb-false area.rows (area.y + o.rows) (or-false-right (ltb area.columns (area.x + o.columns)) _ e₁.0),
+        ltb-false area.columns (area.x + o.columns) (or_parts (ltb area.columns (area.x + o.columns)) _ e₁.0).0,
+        ltb-false area.rows (area.y + o.rows) (or_parts (ltb area.columns (area.x + o.columns)) _ e₁.0).1,
         eqb-true (length words) (area.columns * area.rows * 3) (not-false _ e₂.0),
       )
 

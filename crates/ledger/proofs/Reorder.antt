@@ -15,7 +15,8 @@ use Rattle.grids.specs.Dots.{Inked}
 use Rattle.grids.specs.Painting.{inked}
 use Rattle.view.specs.Limits.{max_draws}
 use Rattle.view.specs.Point.{view_of}
-use Rattle.ledger.specs.Calls.{Opening, Call, draw, points, dot, layer, marker, print, render, refusal, call_dots}
+use Rattle.ledger.specs.Calls.{Call, draw, points, dot, layer, marker, print, render, refusal, call_dots}
+use Rattle.ledger.specs.declared.state.Opening.{Opening}
 use Rattle.ledger.specs.Ledger.{Label, Ledger, refusal_in, with_dots, with_label, ink_of, added_dots, accepted, Reply, refused, painted, done, shown, reply, reply_unless, ledger_after, ledger_reply, ledger_replies}
 use Rattle.ledger.specs.Promise.{first_shown, is_accepted, NoRefusal, Reordered, Every, nil, cons, OfColour, is_print}
 use Rattle.grids.proofs.Cases.{cond-none}

@@ -9,7 +9,8 @@ use Rattle.grids.specs.Lists.{keep}
 use Rattle.grids.specs.declared.cells.Cell.{Cell}
 use Rattle.grids.specs.declared.layer.LayerCell.{LayerCell}
 use Rattle.ledger.specs.Screen.{ScreenCell, cell_on}
-use Rattle.ledger.specs.Calls.{Opening, Call, draw, points, dot, layer, marker, print, render, open_refusal}
+use Rattle.ledger.specs.Calls.{Call, draw, points, dot, layer, marker, print, render, open_refusal}
+use Rattle.ledger.specs.declared.state.Opening.{Opening}
 use Rattle.ledger.specs.Ledger.{Ledger, layers, opened, picture_of, placed_of, screen_cell, painted_in, refusal_in, Reply, refused, painted, done, shown, reply, unless, reply_unless, ledger_after, ledger_reply, ledger_replies}
 use Rattle.ledger.specs.Model.{State, refusal_on, rendered_cells, screen_after, accepted_on, reply_on, state_after, reply_after, replies}
 use Rattle.ledger.specs.Promise.{open_state, first_shown, is_accepted, NoRefusal, without_refused}

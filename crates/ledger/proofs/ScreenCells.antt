@@ -2,7 +2,7 @@
 use mathlib.Core.Path.{◌≡◌, refl, sym, ap, ap₂, ◌∙◌, subst}
 use mathlib.Core.Bool.{Bool, true, false, cond, ◌&&◌}
 use mathlib.Core.List.{List, [], ◌∷◌}
-use Prim.Native.Nat.{ℕ, zero, suc, ◌+◌, ◌-◌, ◌*◌, ◌/◌, ◌%◌, ◌≤◌, ◌<◌, min}
+use Prim.Native.Nat.{ℕ, zero, suc, ◌+◌, ◌-◌, ◌*◌, ◌/◌, ◌%◌, ◌≤◌, ◌<◌}
 use native.Mathlib.Omega.{arith}
 use native.Mathlib.Nat.{mod-lt, div-add-mod', div-lt_iff_lt-mul, mul_comm}
 use lib.Dec.{eqb, ltb, leb}
@@ -11,10 +11,12 @@ use lib.ListN.{length, get_or, set, length-set}
 use lib.Seq.{get_or-set_same, get_or-set_other}
 use borrow.Author.Tests.{ltb-true, leb-true, eqb-true, eqb-false, eq-eqb, lt-ltb, le-leb}
 use Rattle.std.specs.Prelude.{Option, Some, None}
-use Rattle.floats.proofs.Cases.{true-not-false, and-true-left, and-true-right}
+use Rattle.std.proofs.lemmas.Bool.{and_parts}
+use Rattle.floats.proofs.Cases.{true-not-false}
 use Rattle.grids.specs.Lists.{foldl, over, last_word}
 use Rattle.grids.specs.declared.layer.LayerCell.{LayerCell}
 use Rattle.ledger.specs.Screen.{ScreenCell, cell_on, put_on, or_else, layered, Placed, covers, label_symbol, label_foreground, labelled, in_area}
+use Rattle.ledger.proofs.Fitting.{fitting-byte}
 use Rattle.ledger.specs.Model.{cell_count, puts, spot, picture_at, laid_screen, fitting_at, fitting, column_of, row_of, lettered, written_label, rendered_screen}
 use Rattle.ledger.specs.declared.screen.Area.{Area}
 use Rattle.ledger.specs.declared.state.Canvas.{Canvas}
@@ -114,13 +116,13 @@ module _ (c : Canvas) (a : Area) (across : a.x + c.columns ≤ a.columns) (down 
       let Y : ℕ = j / a.columns in
       let columns-in = leb a.x X && ltb (X - a.x) c.columns in
       let rows_in = leb a.y Y && ltb (Y - a.y) c.rows in
-      let ex : columns-in ≡ true = and-true-left columns-in rows_in e in
-      let ey : rows_in ≡ true = and-true-right columns-in rows_in e in
-      let p : a.x ≤ X = leb-true a.x X (and-true-left (leb a.x X) _ ex) in
-      let q : a.y ≤ Y = leb-true a.y Y (and-true-left (leb a.y Y) _ ey) in
+      let ex : columns-in ≡ true = (and_parts columns-in rows_in e).0 in
+      let ey : rows_in ≡ true = (and_parts columns-in rows_in e).1 in
+      let p : a.x ≤ X = leb-true a.x X (and_parts (leb a.x X) _ ex).0 in
+      let q : a.y ≤ Y = leb-true a.y Y (and_parts (leb a.y Y) _ ey).0 in
       let p' : a.x + (X - a.x) ≡ X = omega arith in
       let q' : a.y + (Y - a.y) ≡ Y = omega arith in
-      (ltb-true (X - a.x) c.columns (and-true-right (leb a.x X) _ ex), ltb-true (Y - a.y) c.rows (and-true-right (leb a.y Y) _ ey), rw (p', q') (div-add-mod' j a.columns))
+      (ltb-true (X - a.x) c.columns (and_parts (leb a.x X) _ ex).1, ltb-true (Y - a.y) c.rows (and_parts (leb a.y Y) _ ey).1, rw (p', q') (div-add-mod' j a.columns))
 
   -- a cell outside the area is no place of it
   outside-spot : (j column row : ℕ) → within j ≡ false → column < c.columns → row < c.rows → j ≡ spot a column row → ⊥
@@ -168,11 +170,7 @@ module _ (c : Canvas) (a : Area) (across : a.x + c.columns ≤ a.columns) (down 
     label_from place word text = record { place = place; word = word; text = text }
 
     fitting-says : (x y n k : ℕ) → k < fitting_at c.columns c.rows (Some (x, y)) n → (y < c.rows) × (x + k < c.columns) × (k < n)
-    fitting-says x y n k = go (ltb y c.rows) refl
-      where
-        go : (t : Bool) → ltb y c.rows ≡ t → k < cond t (min n (c.columns - x)) 0 → (y < c.rows) × (x + k < c.columns) × (k < n)
-        go true e h = (ltb-true y c.rows e, omega arith, omega arith)
-        go false e h = absurd (omega arith)
+    fitting-says x y n k h = let b = fitting-byte c.columns c.rows (suc x) y n k h in (b.1, omega (arith, b), b.3)
 
     written-outside : (s : List ℕ) (place : Option (ℕ × ℕ)) (word : ℕ) (text : List ℕ) (j : ℕ) → within j ≡ false → cell_on (written_label c a s (label_from place word text)) j ≡ cell_on s j
     written-outside s None word text j e = refl
@@ -189,10 +187,10 @@ module _ (c : Canvas) (a : Area) (across : a.x + c.columns ≤ a.columns) (down 
         go : (t : Bool) → covers (label_from (Some (x, y)) word text) column row ≡ t
             → cell_on (written_label c a s (label_from (Some (x, y)) word text)) (spot a column row) ≡ labelled (label_from (Some (x, y)) word text ∷ []) column row (cell_on s (spot a column row))
         go true e =
-            let in_row : y ≡ row = eqb-true y row (and-true-left (eqb y row) _ e) in
-            let rest = and-true-right (eqb y row) (leb x column && ltb (column - x) (length text)) e in
-            let from : x ≤ column = leb-true x column (and-true-left (leb x column) _ rest) in
-            let to : column - x < length text = ltb-true (column - x) (length text) (and-true-right (leb x column) _ rest) in
+            let in_row : y ≡ row = eqb-true y row (and_parts (eqb y row) _ e).0 in
+            let rest = (and_parts (eqb y row) (leb x column && ltb (column - x) (length text)) e).1 in
+            let from : x ≤ column = leb-true x column (and_parts (leb x column) _ rest).0 in
+            let to : column - x < length text = ltb-true (column - x) (length text) (and_parts (leb x column) _ rest).1 in
             let i : ℕ = column - x in
             let reaches : x + i ≡ column = omega arith in
             let here : spot a (x + i) y ≡ spot a column row = ap₂ (spot a) reaches in_row in

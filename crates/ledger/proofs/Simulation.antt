@@ -27,7 +27,8 @@ use Rattle.grids.proofs.DotsInCell.{painted_inked, length-paint-inked, paint-ink
 use Rattle.view.specs.Limits.{max_draws, max_painted, max_labels}
 use Rattle.ledger.specs.Screen.{Placed}
 use Rattle.ledger.specs.Labels.{held_labels}
-use Rattle.ledger.specs.Calls.{Opening, Call, draw, points, dot, layer, marker, print, render, refusal, open_refusal}
+use Rattle.ledger.specs.Calls.{Call, draw, points, dot, layer, marker, print, render, refusal, open_refusal}
+use Rattle.ledger.specs.declared.state.Opening.{Opening}
 use Rattle.ledger.specs.Ledger.{Label, Ledger, layers, empty_layer, opened, picture_of, placed_of, painted_in, refusal_in, with_dots, with_layer, ink_of, added_dots, accepted, unless, ledger_after}
 use Rattle.ledger.specs.Model.{State, opening_of, bad_canvas, short_stores, state_refusal, refusal_on, or_refusal, dots_on, drawn_canvas, laid_cells, saved_cells, marked_cells, rendered_cells, with_cells, accepted_on, state_after}
 use Rattle.ledger.specs.Promise.{open_state}

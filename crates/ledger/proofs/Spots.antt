@@ -9,7 +9,7 @@ use lib.Arith.{digits_lt}
 use lib.Dec.{ltb}
 use lib.ListN.{length}
 use borrow.Author.Tests.{ltb-false, eqb-true, not-false}
-use Rattle.floats.proofs.Cases.{or-false-left, or-false-right}
+use Rattle.std.proofs.lemmas.Bool.{or_parts}
 use Rattle.ledger.specs.Calls.{passes_edge, bad_screen}
 use Rattle.ledger.specs.Model.{spot}
 use Rattle.ledger.specs.declared.screen.Area.{Area}
@@ -18,8 +18,8 @@ module _ (columns rows : ℕ) (a : Area) (words : List ℕ) (edge : passes_edge 
   pub spot-in-screen : (column row : ℕ) → column < columns → row < rows → spot a column row * 3 + 3 ≤ length words
   unfolding spot
   spot-in-screen column row h k =
-      let right : a.x + columns ≤ a.columns = ltb-false _ _ (or-false-left _ _ edge) in
-      let bottom : a.y + rows ≤ a.rows = ltb-false _ _ (or-false-right (ltb a.columns (a.x + columns)) _ edge) in
+      let right : a.x + columns ≤ a.columns = ltb-false _ _ (or_parts _ _ edge).0 in
+      let bottom : a.y + rows ≤ a.rows = ltb-false _ _ (or_parts (ltb a.columns (a.x + columns)) _ edge).1 in
       let n : length words ≡ a.columns * a.rows * 3 = eqb-true _ _ (not-false _ good) in
       let l : (a.y + row) * a.columns + (a.x + column) < a.rows * a.columns = digits_lt (omega arith) (omega arith) in
       omega (arith, mul_comm a.columns a.rows)

@@ -1,23 +1,20 @@
 -- The ledger's painted count: what each call adds to it is that call's painted number, so that after a list of calls it is their sum.
 use mathlib.Core.Path.{◌≡◌, refl, ◌∙◌}
-use mathlib.Core.List.{List, [], ◌∷◌, ◌++◌, append-nil, append_assoc}
+use mathlib.Core.List.{List, [], ◌∷◌, ◌++◌, append-nil}
 use Prim.Native.Nat.{ℕ, zero, suc, ◌+◌}
 use native.Mathlib.Omega.{arith}
 use lib.ListN.{length, length-append}
 use Rattle.grids.specs.Lists.{foldl}
 use Rattle.grids.specs.Dots.{Inked}
-use Rattle.lines.specs.Painted.{flat}
+use Rattle.lines.proofs.PaintedDots.{flat_append}
 use Rattle.ledger.specs.Screen.{ScreenCell}
-use Rattle.ledger.specs.Calls.{Opening, Call, draw, points, dot, layer, marker, print, render}
+use Rattle.ledger.specs.Calls.{Call, draw, points, dot, layer, marker, print, render}
+use Rattle.ledger.specs.declared.state.Opening.{Opening}
 use Rattle.ledger.specs.Ledger.{Ledger, opened, painted_in, with_dots, with_layer, added_dots, refusal_in, accepted, Reply, refused, painted, done, shown, reply, unless, reply_unless, ledger_after, ledger_reply, ledger_replies}
 use Rattle.ledger.specs.Promise.{first_shown, painted_sum}
 use Rattle.ledger.specs.declared.screen.Area.{Area}
 
 -- ---- what a call adds
-flat_append : {A B : Type 0} (f : A → List B) (xs ys : List A) → flat f (xs ++ ys) ≡ flat f xs ++ flat f ys
-flat_append f [] ys = refl
-flat_append f (x ∷ xs) ys = rw (flat_append f xs ys, append_assoc)
-
 pub painted-with-dots : (l : Ledger) (dots : List Inked) → painted_in (with_dots l dots) ≡ painted_in l + length dots
 unfolding painted_in
 painted-with-dots l dots = simp (flat_append, append-nil, length-append) (omega arith)

@@ -9,6 +9,7 @@ use native.Mathlib.Numerals.{add-one}
 use lib.ListN.{length, get_or, take, drop, length-take, length-drop}
 use Rattle.std.proofs.lemmas.List.{get_or-take, get_or-drop}
 use Rattle.grids.specs.Lists.{foldl}
+use Rattle.grids.proofs.Words.{foldl-append}
 use Rattle.ledger.specs.Calls.{passes_edge, bad_screen}
 use Rattle.ledger.specs.Screen.{ScreenCell, cell_on, put_on, or_else, Placed}
 use Rattle.ledger.specs.Labels.{place_of, words_from, label_at, held_labels}
@@ -135,11 +136,10 @@ module _ (labels : List ℕ) (k : ℕ) (c : Canvas) where
         ap (λ (n : ℕ). puts (λ j. spot a (column_of l.place + j) (row_of l.place)) (lettered l) words n) e
     label-off a words (suc n) edge good e beyond = absurd (omega (arith, beyond, label-in-screen a words (suc n) edge good e (omega arith)))
 
--- ---- the labels held
+-- both, for `write_label`
+pub ruleset label_writing = (fitting-by, label-off)
 
-foldl-snoc : {A B : Type 0} (f : B → A → B) (b : B) (xs : List A) (x : A) → foldl f b (xs ++ (x ∷ [])) ≡ f (foldl f b xs) x
-foldl-snoc f b [] x = refl
-foldl-snoc f b (y ∷ xs) x = foldl-snoc f (f b y) xs x
+-- ---- the labels held
 
 label-cells-snoc : (c : Canvas) (ls : List Placed) (l : Placed) → label_cells c (ls ++ (l ∷ [])) ≡ label_cells c ls + fitting c l
 label-cells-snoc c [] l = omega arith
@@ -163,4 +163,4 @@ module _ (c : Canvas) (labels : List ℕ) where
 
   pub written_next : (a : Area) (words screen next : List ℕ) (k : ℕ) → screen ≡ foldl (written_label c a) words (held_labels labels k) → next ≡ written_label c a screen (label_at labels k)
       → next ≡ foldl (written_label c a) words (held_labels labels (k + 1))
-  written_next a words screen next k e f = f ∙ rw (e, add-one k) (sym (foldl-snoc (written_label c a) words (held_labels labels k) (label_at labels k)))
+  written_next a words screen next k e f = f ∙ rw (e, add-one k) (sym (foldl-append (written_label c a) words (held_labels labels k) (label_at labels k ∷ [])))

@@ -10,21 +10,13 @@ use Rattle.grids.specs.Markers.{marker_of, is_marker, is_half_block}
 use Rattle.view.specs.Limits.{max_columns, max_rows, max_draws, max_pairs, max_labels, max_text, reset, cell_words, label_words, screen_words}
 use Rattle.lines.specs.Painted.{dot_at}
 use Rattle.shapes.specs.Shapes.{pair_dots}
-use Rattle.shapes.specs.declared.painters.Pair.{Pair}
+use Rattle.walk.specs.declared.clip.Pair.{Pair}
 use Rattle.shapes.specs.Drawing.{shape_dots}
 use Rattle.view.specs.declared.point.View.{View}
 use Rattle.shapes.specs.declared.painters.Shape.{Shape}
 use Rattle.shapes.specs.declared.painters.Shape.TheVariants.{Line, FilledLine, Rectangle, Circle}
 use Rattle.ledger.specs.declared.screen.Area.{Area}
-
--- the arguments of an opening
-pub record Opening : Type 0 where
-  pub columns : ℕ
-  pub rows : ℕ
-  pub bounds : Bounds
-  pub marker : ℕ
-  pub character : ℕ
-  pub background : ℕ
+use Rattle.ledger.specs.declared.state.Opening.{Opening}
 
 -- a call's arguments; `render` has the screen's size, the area's corner and the screen's words
 pub data Call : Type 0 where

@@ -8,7 +8,8 @@ use Rattle.grids.specs.declared.layer.LayerCell.{LayerCell}
 use Rattle.view.specs.Point.{label_place, view_of}
 use Rattle.lines.specs.Painted.{flat}
 use Rattle.ledger.specs.Screen.{ScreenCell, cell_on, layered, Placed, labelled, in_area}
-use Rattle.ledger.specs.Calls.{Opening, Call, draw, points, dot, layer, marker, print, render, refusal, call_dots}
+use Rattle.ledger.specs.Calls.{Call, draw, points, dot, layer, marker, print, render, refusal, call_dots}
+use Rattle.ledger.specs.declared.state.Opening.{Opening}
 use Rattle.ledger.specs.declared.screen.Area.{Area}
 
 -- 'layers (marker, character, list of coloured dots)'

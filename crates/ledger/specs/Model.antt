@@ -9,12 +9,14 @@ use Rattle.grids.specs.Cells.{cell_at}
 use Rattle.grids.specs.Painting.{paint_dots}
 use Rattle.grids.specs.Layer.{save_of, reset_of, blank_of}
 use Rattle.grids.specs.declared.layer.LayerCell.{LayerCell}
+use Rattle.grids.specs.declared.painting.Grid.{Grid}
 use Rattle.view.specs.Limits.{max_draws, max_painted, max_labels, cell_words, label_words}
 use Rattle.view.specs.Point.{label_place, view_of}
 use Rattle.ledger.specs.Screen.{ScreenCell, cell_on, put_on, or_else, layered, Placed}
 use Rattle.ledger.specs.Labels.{put_label, held_labels}
 use Rattle.grids.specs.Lists.{first}
-use Rattle.ledger.specs.Calls.{Opening, Call, draw, points, dot, layer, marker, print, render, bad_size, bad_bounds, bad_colour, refusal, open_refusal, call_dots}
+use Rattle.ledger.specs.Calls.{Call, draw, points, dot, layer, marker, print, render, bad_size, bad_bounds, bad_colour, refusal, open_refusal, call_dots}
+use Rattle.ledger.specs.declared.state.Opening.{Opening}
 use Rattle.ledger.specs.Ledger.{choice_word, ink_of, unless, reply_unless, Reply, painted, done, shown}
 use Rattle.ledger.specs.declared.screen.Area.{Area}
 use Rattle.ledger.specs.declared.state.Canvas.{Canvas}
@@ -28,6 +30,10 @@ pub record State : Type 0 where
 -- the opening that a canvas remembers
 abbrev pub opening_of : Canvas → Opening
 opening_of c = record { columns = c.columns; rows = c.rows; bounds = c.bounds; marker = c.marker; character = c.character; background = c.background }
+
+-- the grid that is being drawn
+abbrev pub grid_of : Canvas → Grid
+grid_of c = record { columns = c.columns; rows = c.rows; marker = marker_of c.marker }
 
 abbrev pub cell_count : Canvas → ℕ
 cell_count c = c.columns * c.rows

@@ -1,12 +1,13 @@
--- What the code's functions give, in the words of the model: the answer as the enum that the code returns, and what private steps leave.
+-- What the code's functions give, in the words of the model: a call's answer, the stores and the screen after it, and where a draw paints.
 use Rattle.std.specs.Prelude.{ℕ, zero, suc, List, [], length}
 use Rattle.ledger.specs.Screen.{ScreenCell}
 use Rattle.ledger.specs.Labels.{held_labels}
 use Rattle.grids.specs.Markers.{marker_of}
 use Rattle.view.specs.Point.{view_of}
-use Rattle.ledger.specs.Calls.{Opening, Call, draw, points, dot, layer, marker, print, render, refusal, open_refusal}
+use Rattle.ledger.specs.Calls.{Call, draw, points, dot, layer, marker, print, render, refusal, open_refusal}
+use Rattle.ledger.specs.declared.state.Opening.{Opening}
 use Rattle.ledger.specs.Ledger.{Reply, refused, painted, done, shown, unless}
-use Rattle.ledger.specs.Model.{State, opening_of, state_refusal, or_refusal, refusal_on, open_canvas, dots_on, label_cells, screen_after, state_after}
+use Rattle.ledger.specs.Model.{State, grid_of, opening_of, state_refusal, or_refusal, refusal_on, open_canvas, dots_on, label_cells, screen_after, state_after}
 use Rattle.ledger.specs.declared.screen.Area.{Area}
 use Rattle.lines.specs.declared.painter.Painter.{Painter}
 use Rattle.ledger.specs.declared.state.Canvas.{Canvas}
@@ -69,6 +70,4 @@ reply_of (Rendered n labels) cells = shown cells n
 -- ---- steps of a draw
 
 abbrev pub painter_of : Canvas → ℕ → Painter
-painter_of c colour =
-    let marker = marker_of c.marker in
-    record { view = view_of c.bounds c.columns c.rows marker; columns = c.columns; rows = c.rows; marker = marker; word = suc colour }
+painter_of c colour = record { view = view_of c.bounds c.columns c.rows (marker_of c.marker); grid = grid_of c; word = suc colour }

@@ -2,7 +2,8 @@
 use Rattle.std.specs.Prelude.{◌≡◌, Bool, true, false, cond, List, [], ◌∷◌, ◌++◌, ℕ, ◌+◌, ◌≤◌, length, Option, Some, None}
 use Rattle.grids.specs.Lists.{keep}
 use Rattle.ledger.specs.Screen.{ScreenCell, cell_on, Placed}
-use Rattle.ledger.specs.Calls.{Opening, Call, draw, points, dot, layer, marker, print, render, open_refusal}
+use Rattle.ledger.specs.Calls.{Call, draw, points, dot, layer, marker, print, render, open_refusal}
+use Rattle.ledger.specs.declared.state.Opening.{Opening}
 use Rattle.ledger.specs.Ledger.{opened, Reply, refused, painted, done, shown, ledger_replies}
 use Rattle.ledger.specs.Model.{State, open_cells, open_canvas, reply_after, state_after, replies, label_cells}
 use Rattle.ledger.specs.Outcomes.{answer_on, reply_of, screen_left}

@@ -15,6 +15,9 @@ use refusals::refusal::Refusal;
 use shapes::painters::Shape;
 use walk::clip::{Bounds, Segment};
 
+// The terminal's own colour, the last that is taken.
+pub const RESET: u32 = 16777216;
+
 // Not 1 to 200 columns and 1 to 100 rows.
 pub fn is_bad_size(columns: u16, rows: u16) -> bool
     ensures { result ≡ bad_size columns rows }
@@ -28,7 +31,7 @@ fn are_in_domain(a: f64, b: f64, c: f64, d: f64) -> bool
     (in_domain(a) & in_domain(b)) & (in_domain(c) & in_domain(d))
 }
 
-// A bound outside the domain.
+// A bound outside the domain. Apart from a segment's test below: the numbers of the two have other names.
 pub fn is_bad_bounds(b: Bounds) -> bool
     ensures { result ≡ bad_bounds b }
 {
@@ -39,7 +42,7 @@ pub fn is_bad_bounds(b: Bounds) -> bool
 pub fn is_bad_colour(colour: u32) -> bool
     ensures { result ≡ bad_colour colour }
 {
-    colour > 16777216
+    colour > RESET
 }
 
 // A coordinate outside the domain.
@@ -56,6 +59,7 @@ fn is_bad_segment(s: Segment) -> bool
 }
 
 // A shape with a number outside the domain.
+#[tactic(auto, unfolding(ledger::specs::Calls::bad_shape))]
 pub fn is_bad_shape(shape: Shape) -> bool
     ensures { result ≡ bad_shape shape }
 {
@@ -67,12 +71,13 @@ pub fn is_bad_shape(shape: Shape) -> bool
     }
 }
 
-// A dot outside a HalfBlock grid, by the marker's number in the canvas.
-pub fn is_outside_grid(marker: u8, columns: u16, rows: u16, column: u32, row: u32) -> bool
-    ensures { result ≡ outside_grid marker columns rows column row }
+// A dot outside a HalfBlock grid.
+#[tactic(auto, unfolding(ledger::specs::Calls::outside_grid))]
+pub fn is_outside_grid(c: Canvas, column: u32, row: u32) -> bool
+    ensures { result ≡ outside_grid c.marker c.columns c.rows column row }
 {
-    (Marker::from(marker) == Marker::HalfBlock)
-        & !((column < u32::from(columns)) & (row < u32::from(rows) * 2))
+    (c.grid().marker == Marker::HalfBlock)
+        & !((column < u32::from(c.columns)) & (row < u32::from(c.rows) * 2))
 }
 
 // No draw or dot more is taken.
@@ -83,6 +88,7 @@ pub fn is_full(draws: u32) -> bool
 }
 
 // A canvas with a size, bound, colour, marker or count outside the domain.
+#[tactic(auto, unfolding(ledger::specs::Model::bad_canvas))]
 pub fn is_bad_canvas(c: Canvas) -> bool
     ensures { result ≡ bad_canvas c }
 {
@@ -95,6 +101,7 @@ pub fn is_bad_canvas(c: Canvas) -> bool
 }
 
 // A store too short for the canvas, by the stores' lengths in words.
+#[tactic(auto, unfolding(ledger::specs::Model::short_stores))]
 pub fn is_short(c: Canvas, cells: usize, labels: usize) -> bool
     ensures { result ≡ short_stores c cells labels }
 {
@@ -103,6 +110,7 @@ pub fn is_short(c: Canvas, cells: usize, labels: usize) -> bool
 }
 
 // What any call is refused on first: 5, then 6.
+#[tactic(auto, unfolding(ledger::specs::Model::state_refusal))]
 pub fn state(c: Canvas, cells: usize, labels: usize) -> Result<(), Refusal>
     ensures { number_in result ≡ state_refusal c cells labels }
 {

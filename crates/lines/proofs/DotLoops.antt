@@ -1,5 +1,6 @@
 -- A `for` over the dots of a line: after its last one they are all painted, or the columns from them; and one more column.
 use Rattle.std.proofs.Common.{◌≡◌, ℕ, ◌+◌, List, [], ◌∷◌, ◌++◌, length, map, sym, refl, ap, ◌∙◌}
+use Rattle.std.proofs.lemmas.List.{map-id}
 use Rattle.walk.specs.Line.{line_dots}
 use Rattle.walk.specs.Walk.{Fits16, walk_of, count_of, walk_dots}
 use Rattle.walk.specs.Course.{course_of, course_dots}
@@ -19,11 +20,7 @@ abbrev pub Yielded : List Dot → List Dot → Type 0
 Yielded xs all = (map (λ (d : Dot). d) xs ≡ all) × (length xs ≡ length all)
 
 yielded-all : (xs all : List Dot) → Yielded xs all → xs ≡ all
-yielded-all xs all h = sym (map-same xs) ∙ h.0
-  where
-    map-same : (xs : List Dot) → map (λ (d : Dot). d) xs ≡ xs
-    map-same [] = refl
-    map-same (x ∷ xs) = ap (λ (ds : List Dot). x ∷ ds) (map-same xs)
+yielded-all xs all h = sym (map-id xs) ∙ h.0
 
 pub all-painted : (p : Painter) (before after : List ℕ) (xs all : List Dot) → after ≡ painted_by p before xs → Yielded xs all → after ≡ painted_by p before all
 all-painted p before after xs all h y = h ∙ ap (painted_by p before) (yielded-all xs all y)

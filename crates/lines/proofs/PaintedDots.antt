@@ -43,14 +43,3 @@ painted-column p before after column row fill low high l h g = (
   omega (arith, length-column fill (dot_at column row)),
   rw (column-over column row fill low high l h) at g,
 )
-
--- ---- the same dots by another name
-pub painted_same : (p : Painter) (before after : List ℕ) (xs ys : List Dot) (m n : ℕ) → xs ≡ ys → m ≡ n → Painted p before xs m after → Painted p before ys n after
-painted_same p before after xs ys m n d e g = rw (← d, ← e) g
-
--- ---- no dot, and one
-pub painted-none : (p : Painter) (before : List ℕ) (dots : List Dot) → dots ≡ [] → Painted p before dots 0 before
-painted-none p before dots e = (rw e, rw e)
-
-pub painted-one : (p : Painter) (before after : List ℕ) (dots : List Dot) (d : Dot) → dots ≡ d ∷ [] → after ≡ painted_by p before (d ∷ []) → Painted p before dots 1 after
-painted-one p before after dots d e g = (rw e, rw e g)

@@ -28,31 +28,31 @@ module _ (p : Painter) (c : Course) where
 
   -- the first words of the cells of its dots
   abbrev pub AtDots : (ℕ → ℕ) → Type 0
-  AtDots at = (k : ℕ) → k < c.count → at k ≡ plain_cell p.columns (dot k) * 5
+  AtDots at = (k : ℕ) → k < c.count → at k ≡ plain_cell p.grid.columns (dot k) * 5
 
   module _ (f : c.column < 2 ^ 64) (g : c.row < 2 ^ 64) (whole : (k : ℕ) → k < c.count → WholeAt c k) where
-    pub by-columns : c.right ≡ 2 ^ 48 → AtDots (word_after (c.column / 2 ^ 48 * 5) 5 (p.columns * 5) c.row c.down)
+    pub by-columns : c.right ≡ 2 ^ 48 → AtDots (word_after (c.column / 2 ^ 48 * 5) 5 (p.grid.columns * 5) c.row c.down)
     by-columns m k l = rw ((whole k l).0 m, ap (λ (s : Course). s.row) (after_is c f g k)) (omega arith)
 
-    pub by_rows : (c.right ≡ 2 ^ 48 → ⊥) → AtDots (word_after (c.row / 2 ^ 48 * (p.columns * 5)) (p.columns * 5) 5 c.column c.right)
+    pub by_rows : (c.right ≡ 2 ^ 48 → ⊥) → AtDots (word_after (c.row / 2 ^ 48 * (p.grid.columns * 5)) (p.grid.columns * 5) 5 c.column c.right)
     by_rows m k l = rw ((whole k l).1 m, ap (λ (s : Course). s.column) (after_is c f g k)) (omega arith)
 
-  module _ (cells : List ℕ) (held : AllHeld p (plain_cell p.columns) cells c) (at : ℕ → ℕ) (w : AtDots at) where
+  module _ (cells : List ℕ) (held : AllHeld p (plain_cell p.grid.columns) cells c) (at : ℕ → ℕ) (w : AtDots at) where
     pub words_inside : (k : ℕ) → k < c.count → at k + 4 < length cells
-    words_inside k l = rw (w k l) (omega (arith, in-store cells p.columns p.rows (plain_cell p.columns (dot k)) (held k l)))
+    words_inside k l = rw (w k l) (omega (arith, in-store cells p.grid.columns p.grid.rows (plain_cell p.grid.columns (dot k)) (held k l)))
 
-    words-painted : dot_size p.marker ≡ by 1 1 → (n : ℕ) → n ≤ c.count → words_set p.word at cells n ≡ painted_by p cells (course_dots c n)
+    words-painted : dot_size p.grid.marker ≡ by 1 1 → (n : ℕ) → n ≤ c.count → words_set p.word at cells n ≡ painted_by p cells (course_dots c n)
     words-painted one zero l = refl
     words-painted one (suc n) l =
         let between = words_set p.word at cells n in
-        let i = plain_cell p.columns (dot n) in
-        let here : i < cells_held between p.columns p.rows = rw (length-words p.word at cells n) (held n l) in
+        let i = plain_cell p.grid.columns (dot n) in
+        let here : i < cells_held between p.grid.columns p.grid.rows = rw (length-words p.word at cells n) (held n l) in
         plain-set p between (word_set p.word between (at n)) i 1 (dot n) here
-        (rw (w n l, ink-words between i 1 p.word (in-store between p.columns p.rows i here))) one refl refl
+        (rw (w n l, ink-words between i 1 p.word (in-store between p.grid.columns p.grid.rows i here))) one refl refl
         ∙ ap (λ s. painted_by p s (dot n ∷ [])) (words-painted one n (omega arith))
         ∙ rw foldl-append
 
-    pub words-over : dot_size p.marker ≡ by 1 1 → (after : List ℕ) → after ≡ words_set p.word at cells c.count → after ≡ painted_by p cells (course_dots c c.count)
+    pub words-over : dot_size p.grid.marker ≡ by 1 1 → (after : List ℕ) → after ≡ words_set p.word at cells c.count → after ≡ painted_by p cells (course_dots c c.count)
     words-over one after h = h ∙ words-painted one c.count (omega arith)
 
 -- ---- the last step stays below 2 ^ 64, by the types alone

@@ -15,7 +15,7 @@ flat f [] = []
 flat f (x ∷ xs) = f x ++ flat f xs
 
 abbrev pub painted_by : Painter → List ℕ → List Dot → List ℕ
-painted_by p cells dots = paint_dots p.marker p.columns p.rows p.word cells dots
+painted_by p cells dots = paint_dots p.grid.marker p.grid.columns p.grid.rows p.word cells dots
 
 -- the dots, of which there are n, painted over `before` give `after`
 abbrev pub Painted : Painter → List ℕ → List Dot → ℕ → List ℕ → Type 0

@@ -15,9 +15,7 @@ pub fn paint_column(cells: &mut [u32], p: Painter, column: u32, row: u32, fill: 
 {
     let low = row.min(fill);
     let high = row.max(fill);
-    paint_rows(
-        cells, p.columns, p.rows, p.marker, column, low, high, p.word,
-    );
+    paint_rows(cells, p.grid, column, low, high, p.word);
     u64::from(high - low) + 1
 }
 

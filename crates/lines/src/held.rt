@@ -17,18 +17,19 @@ use walk::route::Route;
 
 // A dot of a Braille grid whose cell the store has: paint_braille of grids without its test.
 fn set_braille(cells: &mut [u32], p: Painter, d: Dot)
-    requires { (p.marker ≡ Marker.Braille) × (d.row / 4 * p.columns + d.column / 2 < cells_held cells.old p.columns p.rows) }
+    requires { (p.grid.marker ≡ Marker.Braille) × (d.row / 4 * p.grid.columns + d.column / 2 < cells_held cells.old p.grid.columns p.grid.rows) }
     ensures { cells.new ≡ painted_by p cells.old (d ∷ []) }
 {
-    let i = flat_index(p.columns, d.column / 2, d.row / 4);
+    let i = flat_index(p.grid.columns, d.column / 2, d.row / 4);
     let place = d.row % 4 * 2 + d.column % 2;
     let k = i * 5;
     ink(&mut cells[k..k + 5], 1 << place, p.word);
 }
 
 // The dots of a course on a Braille grid, where the cell of each is held, so that none is tested.
+#[inline(never)]
 pub(crate) fn held_braille(cells: &mut [u32], p: Painter, c: Course)
-    requires { (p.marker ≡ Marker.Braille) × ((k : ℕ) → k < c.count → (course_dot (course_after k c)).row / 4 * p.columns + (course_dot (course_after k c)).column / 2 < cells_held cells.old p.columns p.rows) }
+    requires { (p.grid.marker ≡ Marker.Braille) × ((k : ℕ) → k < c.count → (course_dot (course_after k c)).row / 4 * p.grid.columns + (course_dot (course_after k c)).column / 2 < cells_held cells.old p.grid.columns p.grid.rows) }
     ensures { cells.new ≡ painted_by p cells.old (course_dots c c.count) }
 {
     for dot in c.dots() {
@@ -37,7 +38,8 @@ pub(crate) fn held_braille(cells: &mut [u32], p: Painter, c: Course)
 }
 
 // Bit and ink of cells that the store has: the k-th stands at word start + k * step + unit * the whole
-// part of from + k * slope. Its numbers are computed once for a line, and go in by registers.
+// part of from + k * slope. Its numbers are computed once for a line, and go in by registers. By `as`, here and
+// below, since usize has no From of u64.
 fn held_words(
     cells: &mut [u32],
     word: u32,
@@ -66,10 +68,11 @@ fn held_words(
 // tested. Each step goes a whole column or, where it does not, a whole row, so that only the other way
 // needs its fixed point.
 pub(crate) fn held_plain(cells: &mut [u32], p: Painter, c: Course)
-    requires { (dot_size p.marker ≡ by 1 1) × ((k : ℕ) → k < c.count → (course_dot (course_after k c)).row * p.columns + (course_dot (course_after k c)).column < cells_held cells.old p.columns p.rows) × ((k : ℕ) → k < c.count → (c.right ≡ 2 ^ 48 → (course_dot (course_after k c)).column ≡ c.column / 2 ^ 48 + k) × ((c.right ≢ 2 ^ 48) → (course_dot (course_after k c)).row ≡ c.row / 2 ^ 48 + k)) }
+    requires { (dot_size p.grid.marker ≡ by 1 1) × ((k : ℕ) → k < c.count → (course_dot (course_after k c)).row * p.grid.columns + (course_dot (course_after k c)).column < cells_held cells.old p.grid.columns p.grid.rows) × ((k : ℕ) → k < c.count → (c.right ≡ 2 ^ 48 → (course_dot (course_after k c)).column ≡ c.column / 2 ^ 48 + k) × ((c.right ≢ 2 ^ 48) → (course_dot (course_after k c)).row ≡ c.row / 2 ^ 48 + k)) }
     ensures { cells.new ≡ painted_by p cells.old (course_dots c c.count) }
 {
-    let stride = (p.columns as usize) * 5;
+    // By `as`: over usize::from the two conditions of held_words did not close.
+    let stride = (p.grid.columns as usize) * 5;
     if c.right == ONE {
         let start = ((c.column / ONE) as usize) * 5;
         held_words(cells, p.word, start, 5, stride, c.row, c.down, c.count);

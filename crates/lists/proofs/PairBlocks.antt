@@ -4,12 +4,10 @@ use mathlib.Core.List.{List, ◌++◌, append_assoc, append-nil}
 use Prim.Native.Nat.{ℕ, zero, suc, ◌+◌, ◌-◌, ◌*◌, ◌≤◌, ◌<◌, min}
 use Rattle.std.specs.Int.{div_ceil}
 use native.Mathlib.Omega.{arith}
-use native.Mathlib.Numerals.{add-one}
-use lib.ListN.{length, take, set}
-use lib.Seq.{take-suc-set}
+use lib.ListN.{length}
 use Rattle.walk.specs.Tabulate.{tabulate}
 use Rattle.walk.proofs.Tabulated.{tabulate-same}
-use Rattle.shapes.specs.declared.painters.Pair.{Pair}
+use Rattle.walk.specs.declared.clip.Pair.{Pair}
 use Rattle.view.specs.Point.{point_of}
 use Rattle.view.specs.declared.point.View.{View}
 use Rattle.shapes.specs.Shapes.{point_dots, pair_dots}
@@ -19,10 +17,6 @@ use Rattle.lines.specs.declared.painter.Painter.{Painter}
 use Rattle.lines.proofs.PaintedDots.{painted-then, flat_append}
 use Rattle.lists.specs.Lists.{pair_at, pairs_at}
 use Rattle.lists.proofs.PairLists.{length-pairs-at}
-
-pub pairs_next : (part : List ℕ) (at : ℕ) (pairs : List Pair) (i : ℕ) (pair : Pair) → i < length pairs → take i pairs ≡ pairs_at part at i → pair ≡ pair_at part (at + 16 * i)
-    → take (i + 1) (set pairs i pair) ≡ pairs_at part at (i + 1)
-pairs_next part at pairs i pair h e p = rw (add-one, take-suc-set pairs i pair h, e, p)
 
 -- ---- a list in two parts
 tabulate-append : {A : Type 0} (m n : ℕ) (f : ℕ → A) → tabulate (m + n) f ≡ tabulate m f ++ tabulate n (λ k. f (m + k))
@@ -47,19 +41,19 @@ list-next p part at i n before between after xs m r e f g =
     (painted-then p before between after (pair_dots p.view (pairs_at part at i)) (pair_dots p.view (pairs_at part (at + 16 * i) n)) m r f (rw e at g))
 
 -- at most a dot for each pair
-pub few-painted : (v : View) (part : List ℕ) (at n r : ℕ) (xs : List Pair) → xs ≡ pairs_at part at n → r ≡ length (pair_dots v xs) → r ≤ n
-few-painted v part at n r xs e h = omega (arith, h, pairs-count v xs, ap length e, length-pairs-at part at n)
+pub few-painted : (v : View) (part : List ℕ) (at n : ℕ) → length (pair_dots v (pairs_at part at n)) ≤ n
+few-painted v part at n = omega (arith, pairs-count v (pairs_at part at n), length-pairs-at part at n)
 
 -- ---- sixteen at a time: the block b of a list of n pairs, and how many pairs it has
 module _ (n b : ℕ) {blocks : ℕ} (e : blocks ≡ div_ceil n 16) where
   pub block-within : b < blocks → 16 * b < n
   block-within h = omega (arith, e, h)
 
-  pub all-past : blocks ≤ b → min (16 * b) n ≡ n
-  all-past h = omega (arith, e, h)
-
   pub pairs-before : b < blocks → min (16 * b) n ≡ 16 * b
   pairs-before h = omega (arith, e, h)
 
   pub pairs-after : b < blocks → min (16 * (b + 1)) n ≡ 16 * b + min (n - 16 * b) 16
   pairs-after h = omega (arith, e, h)
+
+-- that a block is in the list, and what it paints at most
+pub ruleset blocks = (block-within, few-painted)

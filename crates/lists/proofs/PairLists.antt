@@ -1,6 +1,6 @@
 -- A list of pairs in bytes: its length, and each pair by its place.
 use Rattle.std.proofs.Common.{ℕ, zero, suc, ◌+◌, ◌*◌, ◌<◌, ◌≤◌, ◌≡◌, refl, sym, List, [], ◌∷◌, length, get_or, true, arith}
-use Rattle.shapes.specs.declared.painters.Pair.{Pair}
+use Rattle.walk.specs.declared.clip.Pair.{Pair}
 use Rattle.pairs.specs.Origin.{origin}
 use Rattle.walk.proofs.Tabulated.{length-tabulate, get_or-tabulate}
 use Rattle.lists.specs.Lists.{pair_at, pairs_at, list_fits}
@@ -25,3 +25,6 @@ pub place-in-list : (part : List ℕ) (n i : ℕ) → list_fits part n ≡ true 
 place-in-list part n i e within =
     let f = fits part n e in
     (omega (arith, within, f.1), omega (arith, within, f.0))
+
+-- all that a list read by place needs
+pub ruleset by_place = (length-pairs-at, pair-by-place, past-pairs, place-in-list)

@@ -2,13 +2,13 @@
 use mathlib.Core.Path.{◌≡◌, refl, sym, ◌∙◌}
 use mathlib.Core.Bool.{true}
 use mathlib.Core.List.{List}
-use Prim.Native.Nat.{ℕ, zero, suc, ◌+◌, ◌-◌, ◌*◌, ◌≤◌, ◌<◌}
+use Prim.Native.Nat.{ℕ, zero, suc, ◌+◌, ◌-◌, ◌*◌, ◌≤◌}
 use native.Mathlib.Omega.{arith}
 use lib.ListN.{length, take, drop, length-take, length-drop}
 use lib.Seq.{get_or-take, get_or-drop}
 use lib.Dec.{leb}
-use borrow.Author.Tests.{leb-true, le-leb, lt-leb}
-use Rattle.floats.proofs.Cases.{and-true-left, and-true-right}
+use borrow.Author.Tests.{leb-true, le-leb}
+use Rattle.std.proofs.lemmas.Bool.{and_parts}
 use Rattle.form.specs.Fields.{little, number_at}
 use Rattle.form.proofs.Numbers.{whole}
 use Rattle.lists.specs.Lists.{list_fits}
@@ -33,19 +33,13 @@ first-in-pair part at h = let e : at + 0 ≡ at = omega arith in number-in-pair 
 pub fits : (part : List ℕ) (n : ℕ) → list_fits part n ≡ true → (16 * n ≤ length part - 2) × (n ≤ 4096)
 unfolding list_fits
 fits part n h =
-    let a = leb-true n 4096 (and-true-left (leb n 4096) (leb (n * 16) (length part - 2)) h) in
-    let b = leb-true (n * 16) (length part - 2) (and-true-right (leb n 4096) (leb (n * 16) (length part - 2)) h) in
+    let a = leb-true n 4096 (and_parts (leb n 4096) (leb (n * 16) (length part - 2)) h).0 in
+    let b = leb-true (n * 16) (length part - 2) (and_parts (leb n 4096) (leb (n * 16) (length part - 2)) h).1 in
     (omega (arith, b), a)
 
 pub does-fit : (part : List ℕ) (n : ℕ) → 16 * n ≤ length part - 2 → n ≤ 4096 → list_fits part n ≡ true
 unfolding list_fits
 does-fit part n h l = let e : n * 16 ≤ length part - 2 = omega (arith, h) in rw (le-leb n 4096 l, le-leb (n * 16) (length part - 2) e)
 
--- the two tests, of which the second is made where the first holds
-pub too_many : (part : List ℕ) (n : ℕ) → 4096 < n → leb n 4096 ≡ list_fits part n
-unfolding list_fits
-too_many part n h = rw (lt-leb n 4096 h)
-
-pub by-room : (part : List ℕ) (n : ℕ) → n ≤ 4096 → leb (n * 16) (length part - 2) ≡ list_fits part n
-unfolding list_fits
-by-room part n l = rw (le-leb n 4096 l)
+-- both numbers of a pair
+pub ruleset in_pair = (number-in-pair, first-in-pair)

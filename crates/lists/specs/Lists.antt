@@ -5,7 +5,7 @@ use Rattle.walk.specs.Tabulate.{tabulate}
 use Rattle.walk.specs.declared.bresenham.Dot.{Dot}
 use Rattle.view.specs.declared.point.View.{View}
 use Rattle.shapes.specs.Shapes.{pair_dots}
-use Rattle.shapes.specs.declared.painters.Pair.{Pair}
+use Rattle.walk.specs.declared.clip.Pair.{Pair}
 use Rattle.ledger.specs.Calls.{bad_pairs}
 use Rattle.form.specs.Fields.{number_at}
 

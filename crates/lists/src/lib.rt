@@ -10,9 +10,10 @@ ghost use Rattle.lists.specs.Lists.{pair_at, pairs_at, list_fits, bad_list, list
 use form::fields::FieldValue;
 use lines::painter::Painter;
 use pairs::points::{ORIGIN, Paint, Pairs, paint_pairs};
-use shapes::painters::Pair;
+use walk::clip::Pair;
 
 // The pair at a place, of a part that has it whole: in its sixteen bytes alone neither number needs a test.
+#[tactic(auto, using(crate::proofs::PairParts::in_pair))]
 fn pair_at(part: &[u8], at: usize) -> Pair
     requires { at + 16 ≤ length part.now }
     ensures { result ≡ pair_at part.now at }
@@ -24,6 +25,7 @@ fn pair_at(part: &[u8], at: usize) -> Pair
 }
 
 // Whether a part has a list of so many pairs after its count, of those that a file has room for.
+#[tactic(auto, unfolding(crate::specs::Lists::list_fits))]
 fn has_list(part: &[u8], count: usize) -> bool
     ensures { result ≡ list_fits part.now count }
 {
@@ -38,6 +40,7 @@ pub struct PairList<'a> {
     ghost fits: { list_fits part.now count ≡ true },
 }
 
+#[tactic(auto, using(crate::proofs::PairLists::by_place))]
 impl<'a> Pairs for PairList<'a> {
     ghost listed = { λ list. pairs_at list.part.now 2 list.count };
 
@@ -54,6 +57,7 @@ impl<'a> Pairs for PairList<'a> {
     }
 }
 
+#[tactic(auto, using(crate::proofs::PairBlocks::blocks, crate::proofs::PairParts::fits), unfolding(shapes::specs::Shapes::pair_dots))]
 impl<'a> Paint for PairList<'a> {
     // Sixteen at a time, as document 01 has it: 'Points walks a lent slice of pair structs'. An array for the
     // longest list would be cleared for each record, however short.

@@ -1,30 +1,24 @@
--- Whether a list of pairs holds a bad one, by its pair i and what comes after it: for the loops that scan one.
-use Rattle.std.proofs.Common.{◌≡◌, sym, ◌∙◌, Bool, true, false, ◌||◌, List, length, drop, ℕ, ◌+◌, ◌<◌, ◌≤◌, ap, add-one, drop-cons, get_or, Some}
-use Rattle.std.specs.Prelude.{slice_get}
+-- Lists of pairs for the loops that go through one by place: whether a pair is bad, and the points of the pairs.
+use Rattle.std.proofs.Common.{◌≡◌, refl, false, ◌||◌, List, [], ◌∷◌, length, drop, ℕ, zero, suc, ◌+◌, ◌<◌, ◌≤◌, get_or, arith}
 use Rattle.std.proofs.Math.ListN.{drop_of_length-le}
-use Rattle.std.proofs.lemmas.Option.{slice_get_within, slice_get-get_or, get_or_from_slice_get}
-use Rattle.shapes.specs.declared.painters.Pair.{Pair}
+use Rattle.walk.specs.declared.clip.Pair.{Pair}
+use Rattle.shapes.proofs.PaintLists.{pair-next, point-le}
 use Rattle.ledger.specs.Calls.{bad_point, bad_pairs}
 use Rattle.pairs.specs.Origin.{origin}
 
--- the pair i as it is read
-pub read_pair : (pairs : List Pair) (i : ℕ) {pair : Pair} → i < length pairs → pair ≡ get_or pairs i origin → slice_get pairs i ≡ Some pair
-read_pair pairs i h e = slice_get-get_or pairs i origin h ∙ ap Some (sym e)
-
--- the pair i is bad, or not
-module _ (pairs : List Pair) (i : ℕ) (pair : Pair) (at : slice_get pairs i ≡ Some pair) (so_far : bad_pairs pairs ≡ bad_pairs (drop i pairs)) where
-  next : bad_pairs pairs ≡ bad_point pair.x pair.y || bad_pairs (drop (i + 1) pairs)
-  unfolding bad_pairs
-  next = so_far ∙ rw (add-one, drop-cons pairs i pair (slice_get_within pairs i pair at), get_or_from_slice_get pairs i pair pair at)
-
-  module _ (t : Bool) (is : t ≡ bad_point pair.x pair.y) where
-    pub some-bad : t ≡ true → true ≡ bad_pairs pairs
-    some-bad bad = sym (next ∙ rw (← is, bad))
-
-    pub none-bad : t ≡ false → bad_pairs pairs ≡ bad_pairs (drop (i + 1) pairs)
-    none-bad good = next ∙ rw (← is, good)
-
--- and past the last one
-pub past-all : (pairs : List Pair) (i : ℕ) → length pairs ≤ i → bad_pairs pairs ≡ bad_pairs (drop i pairs) → false ≡ bad_pairs pairs
+-- the list from the pair i on, by that pair, and past the last one
+pub bad-from : (pairs : List Pair) (i : ℕ) → i < length pairs
+    → bad_pairs (drop i pairs) ≡ bad_point (get_or pairs i origin).x (get_or pairs i origin).y || bad_pairs (drop (i + 1) pairs)
 unfolding bad_pairs
-past-all pairs i h so_far = sym (so_far ∙ rw (drop_of_length-le pairs h))
+bad-from [] i h = absurd (omega arith)
+bad-from (p ∷ pairs) zero h = refl
+bad-from (p ∷ pairs) (suc i) h = let e : suc i + 1 ≡ suc (i + 1) = omega arith in rw e (bad-from pairs i (omega arith))
+
+pub bad-past : (pairs : List Pair) (i : ℕ) → length pairs ≤ i → bad_pairs (drop i pairs) ≡ false
+unfolding bad_pairs
+bad-past pairs i h = rw (drop_of_length-le pairs h)
+
+pub ruleset scans = (bad-from, bad-past)
+
+-- one point more, of at most one dot
+pub ruleset painting = (pair-next, point-le)

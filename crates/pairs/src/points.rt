@@ -1,7 +1,7 @@
 // Points over a list of coordinate pairs, however it is lent: looked through, painted, and drawn.
 ghost use Rattle.std.specs.Prelude.{◌≡◌, List, get_or, length};
 ghost use Rattle.shapes.specs.Shapes.{pair_dots};
-ghost use Rattle.shapes.specs.declared.painters.Pair.{Pair};
+ghost use Rattle.walk.specs.declared.clip.Pair.{Pair};
 ghost use Rattle.lines.specs.Painted.{Painted};
 ghost use Rattle.ledger.specs.Calls.{bad_pairs, points};
 ghost use Rattle.ledger.specs.Model.{state_after};
@@ -14,7 +14,8 @@ use ledger::state::Canvas;
 use limits::state::is_bad_point;
 use lines::painter::Painter;
 use refusals::refusal::Refusal;
-use shapes::painters::{Pair, paint_point};
+use shapes::painters::paint_point;
+use walk::clip::Pair;
 
 // What is read past the last pair of a list.
 pub const ORIGIN: Pair = Pair { x: 0.0, y: 0.0 };
@@ -56,6 +57,7 @@ impl<'a> Paint for &'a [Pair] {
 }
 
 // A pair with a number outside the domain.
+#[tactic(auto, using(crate::proofs::PairScans::scans))]
 pub fn is_bad_pairs<P: Pairs>(pairs: P) -> bool
     ensures { result ≡ bad_pairs (P.listed pairs) }
 {
@@ -70,6 +72,7 @@ pub fn is_bad_pairs<P: Pairs>(pairs: P) -> bool
 
 // The points of the pairs: document 01, 'one thin function takes a pair out and calls the covered point
 // routine'.
+#[tactic(auto, using(crate::proofs::PairScans::painting), unfolding(shapes::specs::Shapes::pair_dots))]
 pub fn paint_pairs<P: Pairs>(cells: &mut [u32], p: Painter, pairs: P) -> u64
     ensures { Painted p cells.old (pair_dots p.view (P.listed pairs)) result cells.new }
 {
@@ -83,6 +86,7 @@ pub fn paint_pairs<P: Pairs>(cells: &mut [u32], p: Painter, pairs: P) -> u64
 
 // Points drawn in a colour. All pairs are looked through before the first is painted, since a call that
 // is refused paints nothing.
+#[tactic(auto, using(ledger::proofs::CallFacts::calls))]
 pub fn points<P: Paint>(
     canvas: &mut Canvas,
     cells: &mut [u32],

@@ -9,7 +9,8 @@ use lib.Dec.{ltb}
 use lib.ListN.{length}
 use borrow.Author.Tests.{le-ltb}
 use Rattle.ledger.specs.Screen.{cell_on}
-use Rattle.ledger.specs.Calls.{Opening, Call, draw, points, dot, layer, marker, print, render, open_refusal}
+use Rattle.ledger.specs.Calls.{Call, draw, points, dot, layer, marker, print, render, open_refusal}
+use Rattle.ledger.specs.declared.state.Opening.{Opening}
 use Rattle.ledger.specs.Ledger.{opened, Reply, unless, reply_unless, ledger_replies}
 use Rattle.ledger.specs.Model.{State, or_refusal, refusal_on, accepted_on, reply_on, screen_after, state_after, reply_after, replies}
 use Rattle.ledger.specs.Outcomes.{accepted_answer, answer_unless, answer_on, reply_of}

@@ -1,6 +1,6 @@
 -- What an opening is refused with before its call, from the first test to the last, and what it leaves.
 use mathlib.Core.Path.{◌≡◌, refl}
-use mathlib.Core.Bool.{true, false, ◌||◌}
+use mathlib.Core.Bool.{Bool, cond, ◌||◌}
 use mathlib.Core.List.{List}
 use Prim.Native.Nat.{ℕ, zero, suc, ◌+◌, ◌≤◌, ◌<◌}
 use lib.Dec.{ltb}
@@ -10,10 +10,13 @@ use Rattle.ledger.specs.Calls.{open_refusal}
 use Rattle.ledger.specs.Model.{zero_canvas, open_cells}
 use Rattle.ledger.specs.Outcomes.{open_called}
 use Rattle.ledger.specs.Answer.{Called, Answer}
+use Rattle.refusals.specs.declared.refusal.Refusal.{Refusal}
+use Rattle.refusals.specs.Refusals.{number_of}
+use Rattle.refusals.proofs.Numbers.{some-number}
 use Rattle.form.specs.Fields.{number_at, size_by}
 use Rattle.form.specs.Forms.{max_file, opening_map, opening_widths, opening_part, opening_end, opening_form}
 use Rattle.picture.specs.Opening.{opening_from, opening_of}
-use Rattle.picture.specs.declared.opening.Opening.{Opening}
+use Rattle.ledger.specs.declared.state.Opening.{Opening}
 use Rattle.picture.specs.Run.{too_large, form_or_size, opening_refusal, opened_state, opening_taken}
 use Rattle.records.specs.Step.{Step, step_unless}
 use Rattle.records.specs.Step as step
@@ -37,19 +40,33 @@ pub extra-bit : (file : List ℕ) (widest highest : ℕ) → Headed file → 128
 unfolding form_or_size opening_form
 extra-bit file widest highest g h = rw (le-ltb max_file (length file) g.within, le-ltb (length file) 5 g.header, le-leb _ _ h)
 
-pub cut_short : (file : List ℕ) (widest highest : ℕ) → Headed file → opening_map file < 128 → length file < opening_end file → 14 ≡ form_or_size file widest highest
-unfolding form_or_size opening_form
-cut_short file widest highest g b h = rw (le-ltb max_file (length file) g.within, le-ltb (length file) 5 g.header, lt-leb _ _ b, lt-ltb _ _ h)
+-- the opening as the code reads it, and how many bytes its fields take
+pub record Read (file : List ℕ) (columns rows : ℕ) (read : Opening × ℕ) : Type 0 where
+  pub headed : Headed file
+  pub known : opening_map file < 128
+  pub is : read.0 ≡ opening_of file
+  pub end : 5 + read.1 ≡ opening_end file
+  pub size : (widest highest : ℕ) → ltb widest columns || ltb highest rows ≡ too_large (opening_of file) widest highest
 
-pub too_large_lem : (file : List ℕ) (widest highest : ℕ) → Headed file → opening_map file < 128 → opening_end file ≤ length file → too_large (opening_of file) widest highest ≡ true
-    → 1 ≡ form_or_size file widest highest
-unfolding form_or_size opening_form
-too_large_lem file widest highest g b h t = rw (le-ltb max_file (length file) g.within, le-ltb (length file) 5 g.header, lt-leb _ _ b, le-ltb _ _ h, t)
+pub read-made : (file : List ℕ) (columns rows : ℕ) (part : List ℕ) (read : Opening × ℕ) → Headed file → opening_map file < 128
+    → columns ≡ number_at file 0 2 → rows ≡ number_at file 2 2
+    → part ≡ opening_part file → read ≡ (opening_from columns rows (opening_map file) part, size_by (opening_map file) opening_widths) → Read file columns rows read
+unfolding opening_of opening_end
+read-made file columns rows part read g b c r p e = record { headed = g; known = b; is = rw (e, c, r, p); end = rw e; size = λ widest highest. rw (c, r) }
 
-pub none : (file : List ℕ) (widest highest : ℕ) → Headed file → opening_map file < 128 → opening_end file ≤ length file → too_large (opening_of file) widest highest ≡ false
-    → 0 ≡ form_or_size file widest highest
+pub cut_short : {file : List ℕ} {columns rows : ℕ} {read : Opening × ℕ} (widest highest : ℕ) → Read file columns rows read
+    → length file < 5 + read.1 → 14 ≡ form_or_size file widest highest
 unfolding form_or_size opening_form
-none file widest highest g b h t = rw (le-ltb max_file (length file) g.within, le-ltb (length file) 5 g.header, lt-leb _ _ b, le-ltb _ _ h, t)
+cut_short {file = file} widest highest r h = let e = rw r.end at h in rw (le-ltb max_file (length file) r.headed.within, le-ltb (length file) 5 r.headed.header, lt-leb _ _ r.known, lt-ltb _ _ e)
+
+-- by the form alone none, then by the size
+pub sized : {file : List ℕ} {columns rows : ℕ} {read : Opening × ℕ} (widest highest : ℕ) (t : Bool) → Read file columns rows read
+    → 5 + read.1 ≤ length file → ltb widest columns || ltb highest rows ≡ t
+    → cond t 1 0 ≡ form_or_size file widest highest
+unfolding form_or_size opening_form
+sized {file = file} widest highest t r h e =
+    let f = rw r.end at h in
+    rw (le-ltb max_file (length file) r.headed.within, le-ltb (length file) 5 r.headed.header, lt-leb _ _ r.known, le-ltb _ _ f, ← r.size widest highest, e)
 
 -- ---- what it leaves
 
@@ -64,35 +81,20 @@ opened-step : (n next : ℕ) → step_by (answer_unless n answer.Done) next ≡ 
 opened-step zero next = refl
 opened-step (suc n) next = refl
 
-pub opening-refused : (file : List ℕ) (widest highest : ℕ) (cells labels : List ℕ) (n : ℕ) → n ≡ form_or_size file widest highest → (n ≡ 0 → ⊥)
-    → (record { canvas = zero_canvas; step = step.Refused n } ≡ opening_taken file widest highest cells labels) × (cells ≡ (opened_state file widest highest cells labels).cells)
+pub opening-refused : (file : List ℕ) (widest highest : ℕ) (cells labels : List ℕ) (r : Refusal)
+    → number_of r ≡ form_or_size file widest highest
+    → (record { canvas = zero_canvas; step = step.Refused (number_of r) } ≡ opening_taken file widest highest cells labels) × (cells ≡ (opened_state file widest highest cells labels).cells)
 unfolding opening_refusal opened_state
-opening-refused file widest highest cells labels zero e some = absurd (some refl)
-opening-refused file widest highest cells labels (suc n) e some = rw (← e) (refl, refl)
+opening-refused file widest highest cells labels r e = go (number_of r) e (some-number r)
+  where
+    go : (n : ℕ) → n ≡ form_or_size file widest highest → (n ≡ 0 → ⊥)
+        → (record { canvas = zero_canvas; step = step.Refused n } ≡ opening_taken file widest highest cells labels) × (cells ≡ (opened_state file widest highest cells labels).cells)
+    go zero e some = absurd (some refl)
+    go (suc n) e some = rw (← e) (refl, refl)
 
-pub opening-called : (file : List ℕ) (widest highest : ℕ) (cells labels after : List ℕ) (called : Called) (next : Step) (size : ℕ) → 0 ≡ form_or_size file widest highest
-    → called ≡ open_called (opening_of file) cells (length labels) → after ≡ open_cells (opening_of file) cells (length labels) → next ≡ step_by called.answer (5 + size)
-    → size ≡ size_by (opening_map file) opening_widths
+pub opening-called : (file : List ℕ) (widest highest : ℕ) (cells labels after : List ℕ) (called : Called) (next : Step) (end : ℕ)
+    → 0 ≡ form_or_size file widest highest
+    → called ≡ open_called (opening_of file) cells (length labels) → after ≡ open_cells (opening_of file) cells (length labels) → next ≡ step_by called.answer end → end ≡ opening_end file
     → (record { canvas = called.canvas; step = next } ≡ opening_taken file widest highest cells labels) × (after ≡ (opened_state file widest highest cells labels).cells)
-unfolding opening_refusal opened_state opening_end
-opening-called file widest highest cells labels after called next size e made a n z =
-    rw (← e) (rw (n, made, opened-step (open_refusal (opening_of file) (length cells) (length labels)) (5 + size), z), a)
-
--- ---- the opening as the code reads it
-
-pub size-test : (file : List ℕ) (widest highest columns rows : ℕ) → columns ≡ number_at file 0 2 → rows ≡ number_at file 2 2
-    → ltb widest columns || ltb highest rows ≡ too_large (opening_of file) widest highest
-unfolding opening_of
-size-test file widest highest columns rows c r = rw (c, r)
-
-pub opening-made : (file : List ℕ) (columns rows : ℕ) (part : List ℕ) (fields : Opening) → columns ≡ number_at file 0 2 → rows ≡ number_at file 2 2 → part ≡ opening_part file
-    → fields ≡ record {
-      bounds = (opening_from 0 0 (opening_map file) part).bounds;
-      marker = (opening_from 0 0 (opening_map file) part).marker;
-      character = (opening_from 0 0 (opening_map file) part).character;
-      background = (opening_from 0 0 (opening_map file) part).background;
-      end = size_by (opening_map file) opening_widths;
-    }
-    → record { columns = columns; rows = rows; bounds = fields.bounds; marker = fields.marker; character = fields.character; background = fields.background } ≡ opening_of file
-unfolding opening_of
-opening-made file columns rows part fields c r p f = rw (c, r, f, p)
+unfolding opening_refusal opened_state
+opening-called file widest highest cells labels after called next end e made a n z = rw (← e) (rw (n, made, opened-step (open_refusal (opening_of file) (length cells) (length labels)) end, z), a)

@@ -6,7 +6,7 @@ use native.Mathlib.Omega.{arith}
 use lib.ListN.{length, drop}
 use Rattle.walk.specs.Tabulate.{tabulate}
 use Rattle.walk.proofs.Tabulated.{tabulate-same}
-use Rattle.shapes.specs.declared.painters.Pair.{Pair}
+use Rattle.walk.specs.declared.clip.Pair.{Pair}
 use Rattle.ledger.specs.Promise.{Every, nil, cons}
 use Rattle.lists.specs.Lists.{pair_at, pairs_at}
 use Rattle.picture.specs.Encoding.{float_bytes, pair_bytes, WritablePair}

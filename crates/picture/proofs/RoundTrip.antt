@@ -6,7 +6,8 @@ use native.Mathlib.Omega.{arith}
 use lib.ListN.{length, drop, length-append, length-drop}
 use lib.Seq.{get_or-drop, drop-drop}
 use borrow.Author.Tests.{lt-ltb, le-ltb}
-use Rattle.ledger.specs.Calls.{Opening, Call}
+use Rattle.ledger.specs.Calls.{Call}
+use Rattle.ledger.specs.declared.state.Opening.{Opening}
 use Rattle.ledger.specs.Promise.{Every, cons}
 use Rattle.form.specs.Fields.{stands}
 use Rattle.form.specs.Forms.{max_file, record_form, record_end, opening_end, opening_form}

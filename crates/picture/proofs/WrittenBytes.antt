@@ -7,10 +7,11 @@ use lib.Dec.{T, ltb, lit<}
 use lib.Ieee.{Float, binary64, to_bits}
 use lib.ListN.{length}
 use Rattle.walk.specs.declared.clip.Segment.{Segment}
-use Rattle.shapes.specs.declared.painters.Pair.{Pair}
+use Rattle.walk.specs.declared.clip.Pair.{Pair}
 use Rattle.shapes.specs.declared.painters.Shape.{Shape}
 use Rattle.shapes.specs.declared.painters.Shape.TheVariants.{Line, FilledLine, Rectangle, Circle}
-use Rattle.ledger.specs.Calls.{Opening, Call, draw, points, dot, layer, marker, print, render}
+use Rattle.ledger.specs.Calls.{Call, draw, points, dot, layer, marker, print, render}
+use Rattle.ledger.specs.declared.state.Opening.{Opening}
 use Rattle.ledger.specs.Promise.{Every, nil, cons}
 use Rattle.picture.specs.Encoding.{bytes_of, float_bytes, segment_bytes, pair_bytes, opening_bytes, shape_bytes, label_bytes, record_bytes, records_bytes, file_bytes, IsByte, Writable}
 

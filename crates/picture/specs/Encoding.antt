@@ -4,10 +4,11 @@ use Rattle.std.specs.Prelude.{ℕ, zero, suc, ◌/◌, ◌%◌, ◌<◌, ◌≤�
 use Rattle.std.specs.Float.{binary64}
 use Rattle.std.specs.Float.Ieee.{to_bits, fits}
 use Rattle.walk.specs.declared.clip.Segment.{Segment}
-use Rattle.shapes.specs.declared.painters.Pair.{Pair}
+use Rattle.walk.specs.declared.clip.Pair.{Pair}
 use Rattle.shapes.specs.declared.painters.Shape.{Shape}
 use Rattle.shapes.specs.declared.painters.Shape.TheVariants.{Line, FilledLine, Rectangle, Circle}
-use Rattle.ledger.specs.Calls.{Opening, Call, draw, points, dot, layer, marker, print, render}
+use Rattle.ledger.specs.Calls.{Call, draw, points, dot, layer, marker, print, render}
+use Rattle.ledger.specs.declared.state.Opening.{Opening}
 use Rattle.ledger.specs.Promise.{Every}
 use Rattle.form.specs.Forms.{max_file, opening_form}
 use Rattle.picture.specs.Opening.{opening_of}

@@ -2,7 +2,8 @@
 use Rattle.std.specs.Prelude.{◌≡◌, List, [], ◌∷◌, ℕ, ◌+◌, ◌≤◌, length}
 use Rattle.ledger.specs.Screen.{cell_on}
 use Rattle.ledger.specs.declared.screen.ScreenCell.{ScreenCell}
-use Rattle.ledger.specs.Calls.{Opening, Call, render}
+use Rattle.ledger.specs.Calls.{Call, render}
+use Rattle.ledger.specs.declared.state.Opening.{Opening}
 use Rattle.ledger.specs.Ledger.{opened, Reply, refused, painted, done, shown, ledger_replies}
 use Rattle.picture.specs.Opening.{opening_of}
 use Rattle.picture.specs.Run.{opening_refusal, picture_of}

@@ -1,7 +1,7 @@
 -- The opening of a picture file: document 01, 'Picture file (ours) and its program'.
 use Rattle.std.specs.Prelude.{ℕ, List}
 use Rattle.view.specs.Limits.{reset}
-use Rattle.ledger.specs.Calls.{Opening}
+use Rattle.ledger.specs.declared.state.Opening.{Opening}
 use Rattle.form.specs.Fields.{number_at, number_field, float_field}
 use Rattle.form.specs.Forms.{opening_widths, opening_map, opening_part}
 

@@ -1,7 +1,8 @@
 -- What the calls on a picture file give for every file and every store: the answer, the canvas and the lent lists after them.
 use Rattle.std.specs.Prelude.{ℕ, zero, suc, Bool, cond, ◌||◌, List, [], ◌∷◌, ltb, length}
 use Rattle.grids.specs.Lists.{first}
-use Rattle.ledger.specs.Calls.{Opening, render, open_refusal}
+use Rattle.ledger.specs.Calls.{render, open_refusal}
+use Rattle.ledger.specs.declared.state.Opening.{Opening}
 use Rattle.ledger.specs.Ledger.{unless}
 use Rattle.ledger.specs.Model.{State, or_refusal, state_after, zero_canvas}
 use Rattle.ledger.specs.Promise.{open_state}

@@ -7,51 +7,51 @@ ghost use Rattle.picture.specs.Results.{taken_in};
 ghost use Rattle.picture.specs.Run.{opened_state, opening_taken};
 
 use canvas::calls::open;
-use form::fields::{FieldValue, Fields};
-use ledger::state::Canvas;
+use form::fields::{FieldValue, Fields, Part};
+use ledger::state::{Canvas, Opening};
+use limits::state::RESET;
 use refusals::refusal::Refusal;
 use walk::clip::Bounds;
 
-// The opening's fields, and the place after them.
+// The largest canvas that a caller takes.
 #[derive(Clone, Copy)]
-struct Opening {
-    bounds: Bounds,
-    marker: u8,
-    character: u32,
-    background: u32,
-    end: usize,
+pub struct Largest {
+    pub columns: u16,
+    pub rows: u16,
 }
 
-fn opening_fields(map: u8, part: &[u8]) -> Opening
-    ensures { result ≡ record { bounds = (opening_from 0 0 map part.now).bounds; marker = (opening_from 0 0 map part.now).marker; character = (opening_from 0 0 map part.now).character; background = (opening_from 0 0 map part.now).background; end = size_by map opening_widths } }
+// An opening of this size with the fields of a file, and how many bytes these take.
+fn opening_fields(columns: u16, rows: u16, part: Part<'_>) -> (Opening, usize)
+    ensures { result ≡ (opening_from columns rows part.entry.map part.entry.bytes.now, size_by part.entry.map opening_widths) }
 {
-    let mut fields = Fields::new(map, part);
+    let mut fields = Fields::new(part);
     let bounds = Bounds {
         left: fields.real(),
         right: fields.real(),
         bottom: fields.real(),
         top: fields.real(),
     };
-    Opening {
+    let opening = Opening {
+        columns,
+        rows,
         bounds,
         marker: fields.next(1),
         character: fields.next(32),
-        background: fields.next(16777216),
-        end: fields.at,
-    }
+        background: fields.next(RESET),
+    };
+    (opening, fields.at)
 }
 
-// The canvas that a file opens, and where its first record begins. More than `widest` columns or
-// `highest` rows are refused with 1, in the place of the opening's own 1.
+// The canvas that a file opens, and where its first record begins. A larger one than the largest is refused
+// with 1, in the place of the opening's own 1.
 pub fn open_picture(
     file: &[u8],
-    widest: u16,
-    highest: u16,
+    largest: Largest,
     cells: &mut [u32],
     labels: &[u32],
 ) -> Result<(Canvas, usize), Refusal>
-    ensures taken { taken_in result ≡ opening_taken file.now widest highest cells.old labels.now }
-    ensures cells { cells.new ≡ (opened_state file.now widest highest cells.old labels.now).cells }
+    ensures taken { taken_in result ≡ opening_taken file.now largest.columns largest.rows cells.old labels.now }
+    ensures cells { cells.new ≡ (opened_state file.now largest.columns largest.rows cells.old labels.now).cells }
 {
     if file.len() > 65536 {
         return Err(Refusal::Length);
@@ -59,28 +59,22 @@ pub fn open_picture(
     if file.len() < 5 {
         return Err(Refusal::Cut);
     }
-    let map = file[4];
-    if map >= 128 {
+    let part = Part {
+        map: file[4],
+        bytes: &file[5..],
+    };
+    if part.map >= 128 {
         return Err(Refusal::Map);
-    }
-    let opening = opening_fields(map, &file[5..]);
-    if file.len() - 5 < opening.end {
-        return Err(Refusal::Cut);
     }
     let columns = u16::read(file, 0);
     let rows = u16::read(file, 2);
-    if (columns > widest) | (rows > highest) {
+    let (opening, end) = opening_fields(columns, rows, part);
+    if part.bytes.len() < end {
+        return Err(Refusal::Cut);
+    }
+    if (columns > largest.columns) | (rows > largest.rows) {
         return Err(Refusal::Size);
     }
-    let canvas = open(
-        columns,
-        rows,
-        opening.bounds,
-        opening.marker,
-        opening.character,
-        opening.background,
-        &mut *cells,
-        labels,
-    )?;
-    Ok((canvas, 5 + opening.end))
+    let canvas = open(opening, &mut *cells, labels)?;
+    Ok((canvas, 5 + end))
 }

@@ -4,9 +4,8 @@ ghost use Rattle.ledger.specs.Outcomes.{given};
 ghost use Rattle.picture.specs.Results.{stop_in, drawn_in};
 ghost use Rattle.picture.specs.Run.{records_from, ran_by, finished, picture_of};
 
-use crate::opening::open_picture;
+use crate::opening::{Largest, open_picture};
 use canvas::calls::{Rendered, render};
-use ledger::screen::Area;
 use ledger::state::Canvas;
 use records::steps::take_record;
 use refusals::refusal::Refusal;
@@ -53,34 +52,27 @@ fn finish(
     ensures cells { cells.new ≡ (finished (given canvas.old cells.old labels.now) place screen.old).state.cells }
     ensures screen { screen.new ≡ (finished (given canvas.old cells.old labels.now) place screen.old).screen }
 {
-    let area = Area {
-        columns: canvas.columns,
-        rows: canvas.rows,
-        x: 0,
-        y: 0,
-    };
+    let area = canvas.area();
     match render(canvas, &mut *cells, labels, area, &mut *screen) {
         Ok(rendered) => Ok(rendered),
         Err(refusal) => Err(Fault { refusal, place }),
     }
 }
 
-// A whole file drawn onto a screen of its canvas' size. More than `widest` columns or
-// `highest` rows are refused with 1.
+// A whole file drawn onto a screen of its canvas' size. A larger canvas than the largest is refused with 1.
 pub fn draw_picture(
     file: &[u8],
-    widest: u16,
-    highest: u16,
+    largest: Largest,
     cells: &mut [u32],
     labels: &mut [u32],
     screen: &mut [u32],
 ) -> Result<Rendered, Fault>
-    ensures drawn { drawn_in result ≡ (picture_of file.now widest highest cells.old labels.old screen.old).drawn }
-    ensures cells { cells.new ≡ (picture_of file.now widest highest cells.old labels.old screen.old).state.cells }
-    ensures labels { labels.new ≡ (picture_of file.now widest highest cells.old labels.old screen.old).state.labels }
-    ensures screen { screen.new ≡ (picture_of file.now widest highest cells.old labels.old screen.old).screen }
+    ensures drawn { drawn_in result ≡ (picture_of file.now largest.columns largest.rows cells.old labels.old screen.old).drawn }
+    ensures cells { cells.new ≡ (picture_of file.now largest.columns largest.rows cells.old labels.old screen.old).state.cells }
+    ensures labels { labels.new ≡ (picture_of file.now largest.columns largest.rows cells.old labels.old screen.old).state.labels }
+    ensures screen { screen.new ≡ (picture_of file.now largest.columns largest.rows cells.old labels.old screen.old).screen }
 {
-    match open_picture(file, widest, highest, &mut *cells, &*labels) {
+    match open_picture(file, largest, &mut *cells, &*labels) {
         Err(refusal) => Err(Fault { refusal, place: 0 }),
         Ok((mut canvas, start)) => {
             take_records(file, start, &mut canvas, &mut *cells, &mut *labels)?;

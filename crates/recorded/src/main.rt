@@ -18,11 +18,11 @@ fn is_answer(file: &[u8], answer: &[u8]) -> bool {
 
 // Reads a file and its answer, and replays it. Answers whether they agree.
 fn replay<R: io::Input + Eprint>(program: &Program<'_, R>) -> io::Result<bool> {
-    let mut file = [0u8; FILE_ROOM];
-    let given = read_file(program, &mut file)?;
-    let mut answer = [0u8; 65536];
-    let wanted = read_file(program, &mut answer)?;
-    Ok(is_answer(&file[..given], &answer[..wanted]))
+    let mut file_room = [0u8; FILE_ROOM];
+    let file = read_file(program, &mut file_room)?;
+    let mut answer_room = [0u8; 65536];
+    let answer = read_file(program, &mut answer_room)?;
+    Ok(is_answer(file, answer))
 }
 
 fn print_difference<R: Print + Eprint>(program: &Program<'_, R>, name: &[u8]) {
@@ -35,13 +35,13 @@ fn print_difference<R: Print + Eprint>(program: &Program<'_, R>, name: &[u8]) {
 fn replay_next<R: io::Input + Print + Eprint>(
     program: &Program<'_, R>,
 ) -> io::Result<Option<bool>> {
-    let mut name = [0u8; 255];
-    let Some(length) = read_name(program, &mut name)? else {
+    let mut buffer = [0u8; 255];
+    let Some(name) = read_name(program, &mut buffer)? else {
         return Ok(None);
     };
     let agrees = replay(program)?;
     if !agrees {
-        print_difference(program, &name[..length]);
+        print_difference(program, name);
     }
     Ok(Some(agrees))
 }

@@ -6,10 +6,11 @@ use mathlib.Core.List.{List}
 use Prim.Native.Nat.{ℕ, ◌+◌, ◌-◌, ◌<◌, ◌^◌}
 use native.Mathlib.Omega.{arith}
 use lib.ListN.{length, take, drop}
+use lib.Seq.{drop-drop}
 use borrow.Author.Rules.{part_to_end}
+use Rattle.std.proofs.lemmas.Bool.{cases_lt}
 use Rattle.floats.specs.Arithmetic.{bits}
 use Rattle.floats.specs.Domain.{in_domain}
-use Rattle.floats.proofs.Cases.{lt-or-le}
 use Rattle.shapes.specs.declared.painters.Shape.TheVariants.{Line, FilledLine, Circle}
 use Rattle.walk.specs.declared.clip.Segment.{Segment}
 use Rattle.ledger.specs.Calls.{draw, bad_segment, bad_shape}
@@ -61,11 +62,11 @@ bad-circle a b c t u v h k l = rw (h, k, l) (some-of-three (in_domain (bits a)) 
 
 -- ---- the three kinds
 which : (k : ℕ) → CompleteKind k → (k ≡ 1) ⊎ ((k ≡ 2) ⊎ (k ≡ 4))
-which k h = elim (lt-or-le k 2) [
+which k h = elim (cases_lt k 2) [
   | inl a ↦ inl (omega (arith, h.0, a))
-  | inr b ↦ elim (lt-or-le k 3) [
+  | inr b ↦ elim (cases_lt k 3) [
     | inl c ↦ inr (inl (omega (arith, b, c)))
-    | inr d ↦ elim (lt-or-le k 4) [ inl e ↦ absurd (h.1.1 (omega (arith, d, e))) | inr e ↦ inr (inr (omega (arith, e, h.1.0))) ]
+    | inr d ↦ elim (cases_lt k 4) [ inl e ↦ absurd (h.1.1 (omega (arith, d, e))) | inr e ↦ inr (inr (omega (arith, e, h.1.0))) ]
   ]
 ]
 
@@ -93,6 +94,7 @@ module _ (file : List ℕ) (at kind : ℕ) (h : CompleteAt file at kind) where
   pub complete-form : 0 ≡ record_form file at
   complete-form = well-formed file at (record { within = h.1.0; header = omega (arith, h.1.1.0); known = facts.known }) facts.few (rw facts.end h.1.1.0)
 
-  pub complete-call-is : call_of kind (complete_map kind) (take (length file - (at + 2)) (drop (at + 2) file)) ≡ record_call file at
+  -- of the part as it is lent: of the file from the record on, what follows its two bytes
+  pub complete-call-is : call_of kind (complete_map kind) (take (length (take (length file - at) (drop at file)) - 2) (drop 2 (take (length file - at) (drop at file)))) ≡ record_call file at
   unfolding record_call
-  complete-call-is = rw (part_to_end file (at + 2), h.1.1.1.0, h.1.1.1.1)
+  complete-call-is = rw (part_to_end file at, part_to_end (drop at file) 2, drop-drop 2 at file, h.1.1.1.0, h.1.1.1.1)

@@ -12,18 +12,16 @@ ghost use Rattle.lists.specs.Lists.{list_fits};
 ghost use Rattle.records.specs.Records.{line_call, filled_line_call, rectangle_call, circle_call, points_call, marker_call, label_text, label_call, dot_call, call_of};
 
 use canvas::calls::{dot, draw, layer, marker, print};
-use form::fields::{Fields, has};
+use form::fields::{Fields, Part, has};
 use form::kind::Kind;
-use form::sizes::{list_end, pair_count, text_length, text_place};
+use form::sizes::{text_length, text_place};
 use ledger::state::Canvas;
+use limits::state::RESET;
 use lists::PairList;
 use pairs::points::points;
 use refusals::refusal::Refusal;
 use shapes::painters::Shape;
 use walk::clip::Segment;
-
-// The colour of a record that has none.
-const RESET: u32 = 16777216;
 
 // A shape with its colour.
 #[derive(Clone, Copy)]
@@ -32,10 +30,10 @@ struct Drawing {
     colour: u32,
 }
 
-fn line_of(map: u8, part: &[u8]) -> Drawing
-    ensures { draw result.shape result.colour ≡ line_call map part.now }
+fn line_of(part: Part<'_>) -> Drawing
+    ensures { draw result.shape result.colour ≡ line_call part.entry.map part.entry.bytes.now }
 {
-    let mut fields = Fields::new(map, part);
+    let mut fields = Fields::new(part);
     let ends = Segment {
         x1: fields.real(),
         y1: fields.real(),
@@ -48,10 +46,10 @@ fn line_of(map: u8, part: &[u8]) -> Drawing
     }
 }
 
-fn filled_line_of(map: u8, part: &[u8]) -> Drawing
-    ensures { draw result.shape result.colour ≡ filled_line_call map part.now }
+fn filled_line_of(part: Part<'_>) -> Drawing
+    ensures { draw result.shape result.colour ≡ filled_line_call part.entry.map part.entry.bytes.now }
 {
-    let mut fields = Fields::new(map, part);
+    let mut fields = Fields::new(part);
     let ends = Segment {
         x1: fields.real(),
         y1: fields.real(),
@@ -64,20 +62,20 @@ fn filled_line_of(map: u8, part: &[u8]) -> Drawing
     }
 }
 
-fn rectangle_of(map: u8, part: &[u8]) -> Drawing
-    ensures { draw result.shape result.colour ≡ rectangle_call map part.now }
+fn rectangle_of(part: Part<'_>) -> Drawing
+    ensures { draw result.shape result.colour ≡ rectangle_call part.entry.map part.entry.bytes.now }
 {
-    let mut fields = Fields::new(map, part);
+    let mut fields = Fields::new(part);
     Drawing {
         shape: Shape::Rectangle(fields.real(), fields.real(), fields.real(), fields.real()),
         colour: fields.next(RESET),
     }
 }
 
-fn circle_of(map: u8, part: &[u8]) -> Drawing
-    ensures { draw result.shape result.colour ≡ circle_call map part.now }
+fn circle_of(part: Part<'_>) -> Drawing
+    ensures { draw result.shape result.colour ≡ circle_call part.entry.map part.entry.bytes.now }
 {
-    let mut fields = Fields::new(map, part);
+    let mut fields = Fields::new(part);
     Drawing {
         shape: Shape::Circle(fields.real(), fields.real(), fields.real()),
         colour: fields.next(RESET),
@@ -103,24 +101,24 @@ fn draw_call(
     Ok(())
 }
 
-// A points record: the pairs in the bytes, drawn as `points` does.
+// A points record: the pairs in the bytes, drawn as `points` does. By a call, so that its loop over the pairs has
+// the registers to itself.
+#[inline(never)]
 fn points_call(
-    map: u8,
-    part: &[u8],
+    part: Part<'_>,
     canvas: &mut Canvas,
     cells: &mut [u32],
     labels: &[u32],
 ) -> Result<(), Refusal>
-    requires { list_fits part.now (pair_count map part.now) ≡ true }
-    ensures refusal { number_in result ≡ refusal_on (given canvas.old cells.old labels.now) (points_call map part.now) }
-    ensures state { given canvas.new cells.new labels.now ≡ state_after (given canvas.old cells.old labels.now) (points_call map part.now) }
+    requires { list_fits part.bytes.now (pair_count part.map part.bytes.now) ≡ true }
+    ensures refusal { number_in result ≡ refusal_on (given canvas.old cells.old labels.now) (points_call part.entry.map part.entry.bytes.now) }
+    ensures state { given canvas.new cells.new labels.now ≡ state_after (given canvas.old cells.old labels.now) (points_call part.entry.map part.entry.bytes.now) }
 {
-    let list = PairList::new(part, pair_count(map, part)).unwrap();
+    let list = PairList::new(part.bytes, part.pair_count()).unwrap();
     let mut fields = Fields {
-        part,
-        map,
-        at: list_end(map, part),
+        at: part.list_end(),
         weight: 2,
+        ..Fields::new(part)
     };
     let colour: u32 = fields.next(RESET);
     points(&mut *canvas, &mut *cells, labels, list, colour)?;
@@ -128,32 +126,30 @@ fn points_call(
 }
 
 fn marker_call(
-    map: u8,
-    part: &[u8],
+    part: Part<'_>,
     canvas: &mut Canvas,
     cells: &mut [u32],
     labels: &[u32],
 ) -> Result<(), Refusal>
-    ensures refusal { number_in result ≡ refusal_on (given canvas.old cells.old labels.now) (marker_call map part.now) }
-    ensures state { given canvas.new cells.new labels.now ≡ state_after (given canvas.old cells.old labels.now) (marker_call map part.now) }
+    ensures refusal { number_in result ≡ refusal_on (given canvas.old cells.old labels.now) (marker_call part.entry.map part.entry.bytes.now) }
+    ensures state { given canvas.new cells.new labels.now ≡ state_after (given canvas.old cells.old labels.now) (marker_call part.entry.map part.entry.bytes.now) }
 {
-    let mut fields = Fields::new(map, part);
+    let mut fields = Fields::new(part);
     let number: u8 = fields.next(1);
     let character: u32 = fields.next(32);
     marker(&mut *canvas, &mut *cells, labels, number, character)
 }
 
 fn dot_call(
-    map: u8,
-    part: &[u8],
+    part: Part<'_>,
     canvas: &mut Canvas,
     cells: &mut [u32],
     labels: &[u32],
 ) -> Result<(), Refusal>
-    ensures refusal { number_in result ≡ refusal_on (given canvas.old cells.old labels.now) (dot_call map part.now) }
-    ensures state { given canvas.new cells.new labels.now ≡ state_after (given canvas.old cells.old labels.now) (dot_call map part.now) }
+    ensures refusal { number_in result ≡ refusal_on (given canvas.old cells.old labels.now) (dot_call part.entry.map part.entry.bytes.now) }
+    ensures state { given canvas.new cells.new labels.now ≡ state_after (given canvas.old cells.old labels.now) (dot_call part.entry.map part.entry.bytes.now) }
 {
-    let mut fields = Fields::new(map, part);
+    let mut fields = Fields::new(part);
     let column: u32 = fields.next(0);
     let row: u32 = fields.next(0);
     let colour: u32 = fields.next(RESET);
@@ -162,34 +158,33 @@ fn dot_call(
 }
 
 // The text of a label, if it stands.
-fn text_of(map: u8, part: &[u8]) -> &[u8]
-    requires { size_by map (label_widths map part.now) ≤ length part.now }
-    ensures { result.now ≡ label_text map part.now }
+fn text_of<'a>(part: Part<'a>) -> &'a [u8]
+    requires { size_by part.map (label_widths part.map part.bytes.now) ≤ length part.bytes.now }
+    ensures { result.now ≡ label_text part.entry.map part.entry.bytes.now }
 {
-    if !has(map, 8) {
-        return &part[..0];
+    if !has(part.map, 8) {
+        return &part.bytes[..0];
     }
-    let at = text_place(map);
+    let at = text_place(part.map);
     let start = at + 1;
-    &part[start..start + text_length(part, at)]
+    &part.bytes[start..start + text_length(part.bytes, at)]
 }
 
 fn label_call(
-    map: u8,
-    part: &[u8],
+    part: Part<'_>,
     canvas: &mut Canvas,
     cells: &[u32],
     labels: &mut [u32],
 ) -> Result<(), Refusal>
-    requires { size_by map (label_widths map part.now) ≤ length part.now }
-    ensures refusal { number_in result ≡ refusal_on (given canvas.old cells.now labels.old) (label_call map part.now) }
-    ensures state { given canvas.new cells.now labels.new ≡ state_after (given canvas.old cells.now labels.old) (label_call map part.now) }
+    requires { size_by part.map (label_widths part.map part.bytes.now) ≤ length part.bytes.now }
+    ensures refusal { number_in result ≡ refusal_on (given canvas.old cells.now labels.old) (label_call part.entry.map part.entry.bytes.now) }
+    ensures state { given canvas.new cells.now labels.new ≡ state_after (given canvas.old cells.now labels.old) (label_call part.entry.map part.entry.bytes.now) }
 {
-    let mut fields = Fields::new(map, part);
+    let mut fields = Fields::new(part);
     let x = fields.real();
     let y = fields.real();
     let colour: Option<u32> = fields.optional();
-    let text = text_of(map, part);
+    let text = text_of(part);
     print(&mut *canvas, cells, &mut *labels, x, y, text, colour)
 }
 
@@ -197,26 +192,25 @@ fn label_call(
 #[tactic(auto, unfolding(crate::specs::Records::call_of, form::specs::Forms::widths_of))]
 pub(crate) fn record_call(
     kind: Kind,
-    map: u8,
-    part: &[u8],
+    part: Part<'_>,
     canvas: &mut Canvas,
     cells: &mut [u32],
     labels: &mut [u32],
 ) -> Result<(), Refusal>
-    requires fits { size_by map (widths_of (kind_number kind) map part.now) ≤ length part.now }
-    requires short { length part.now ≤ max_file }
-    ensures refusal { number_in result ≡ refusal_on (given canvas.old cells.old labels.old) (call_of (kind_number kind) map part.now) }
-    ensures state { given canvas.new cells.new labels.new ≡ state_after (given canvas.old cells.old labels.old) (call_of (kind_number kind) map part.now) }
+    requires fits { size_by part.map (widths_of (kind_number kind) part.map part.bytes.now) ≤ length part.bytes.now }
+    requires short { length part.bytes.now ≤ max_file }
+    ensures refusal { number_in result ≡ refusal_on (given canvas.old cells.old labels.old) (call_of (kind_number kind) part.entry.map part.entry.bytes.now) }
+    ensures state { given canvas.new cells.new labels.new ≡ state_after (given canvas.old cells.old labels.old) (call_of (kind_number kind) part.entry.map part.entry.bytes.now) }
 {
     match kind {
-        Kind::Line => draw_call(line_of(map, part), canvas, cells, labels),
-        Kind::FilledLine => draw_call(filled_line_of(map, part), canvas, cells, labels),
-        Kind::Rectangle => draw_call(rectangle_of(map, part), canvas, cells, labels),
-        Kind::Circle => draw_call(circle_of(map, part), canvas, cells, labels),
-        Kind::Points => points_call(map, part, canvas, cells, labels),
+        Kind::Line => draw_call(line_of(part), canvas, cells, labels),
+        Kind::FilledLine => draw_call(filled_line_of(part), canvas, cells, labels),
+        Kind::Rectangle => draw_call(rectangle_of(part), canvas, cells, labels),
+        Kind::Circle => draw_call(circle_of(part), canvas, cells, labels),
+        Kind::Points => points_call(part, canvas, cells, labels),
         Kind::Layer => layer(canvas, cells, labels),
-        Kind::Marker => marker_call(map, part, canvas, cells, labels),
-        Kind::Label => label_call(map, part, canvas, cells, labels),
-        Kind::Dot => dot_call(map, part, canvas, cells, labels),
+        Kind::Marker => marker_call(part, canvas, cells, labels),
+        Kind::Label => label_call(part, canvas, cells, labels),
+        Kind::Dot => dot_call(part, canvas, cells, labels),
     }
 }

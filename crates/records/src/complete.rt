@@ -112,6 +112,7 @@ fn complete_circle(part: &[u8]) -> Judged
     }
 }
 
+#[tactic(auto, unfolding(crate::specs::Records::call_of))]
 fn judge(kind: Complete, part: &[u8]) -> Judged
     ensures call { draw result.shape result.colour ≡ call_of (complete_number kind) (complete_map (complete_number kind)) part.now }
     ensures bad { result.bad ≡ bad_shape result.shape }
@@ -141,19 +142,18 @@ pub(crate) fn complete_kind(file: &[u8], at: usize) -> Option<Complete>
     if file.len() > 65536 || at > 65536 || file.len() < at + 30 {
         return None;
     }
-    let kind = match (file[at], file[at + 1]) {
-        (1, 31) => Complete::Line,
-        (2, 63) => Complete::FilledLine,
-        (4, 15) => Complete::Circle,
-        _ => return None,
-    };
-    if file.len() - at < 2 + complete_size(kind) {
-        return None;
+    // 30 bytes hold a circle; what the others need is tested for each, so that its reads need no test
+    let rest = file.len() - at;
+    match (file[at], file[at + 1]) {
+        (1, 31) if rest >= 38 => Some(Complete::Line),
+        (2, 63) if rest >= 46 => Some(Complete::FilledLine),
+        (4, 15) => Some(Complete::Circle),
+        _ => None,
     }
-    Some(kind)
 }
 
 // What `draw` does, of a shape that was judged.
+#[tactic(auto, using(ledger::proofs::CallFacts::calls))]
 fn draw_judged(
     d: Judged,
     canvas: &mut Canvas,

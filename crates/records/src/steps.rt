@@ -8,6 +8,7 @@ ghost use Rattle.records.specs.Steps.{record_state, record_taken};
 
 use crate::calls::record_call;
 use crate::complete::{Complete, complete_call, complete_kind, complete_size};
+use form::fields::Part;
 use form::kind::Kind;
 use form::sizes::record_form;
 use ledger::state::Canvas;
@@ -26,12 +27,13 @@ fn take_complete(
     ensures step { step_in result ≡ (record_taken (given canvas.old cells.old labels.now) file.now at).step }
     ensures state { given canvas.new cells.new labels.now ≡ record_state (given canvas.old cells.old labels.now) file.now at }
 {
-    let first = at + 2;
-    complete_call(kind, &file[first..], &mut *canvas, &mut *cells, labels)?;
-    Ok(first + complete_size(kind))
+    let record = &file[at..]; // as in `complete_kind`, whose test then serves the reads
+    complete_call(kind, &record[2..], &mut *canvas, &mut *cells, labels)?;
+    Ok(at + 2 + complete_size(kind))
 }
 
 // The record whose first byte stands at a place: its call is made, or it is refused and changes nothing.
+#[tactic(auto, using(crate::proofs::RecordSteps::header_within))]
 pub fn take_record(
     file: &[u8],
     at: usize,
@@ -47,8 +49,10 @@ pub fn take_record(
     }
     let end = record_form(file, at)?;
     let kind = Kind::try_from(file[at])?;
-    let map = file[at + 1];
-    let part = &file[at + 2..];
-    record_call(kind, map, part, &mut *canvas, &mut *cells, &mut *labels)?;
+    let part = Part {
+        map: file[at + 1],
+        bytes: &file[at + 2..],
+    };
+    record_call(kind, part, &mut *canvas, &mut *cells, &mut *labels)?;
     Ok(end)
 }

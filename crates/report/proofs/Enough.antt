@@ -10,8 +10,9 @@ use lib.Dec.{leb}
 use lib.ListN.{length, take, drop}
 use lib.Seq.{take_all, length-take-le}
 use borrow.Author.Tests.{leb-true, leb-false}
-use Rattle.floats.proofs.Cases.{false-not-true, and-true-left}
-use Rattle.ledger.specs.Calls.{Opening}
+use Rattle.std.proofs.lemmas.Bool.{and_parts}
+use Rattle.floats.proofs.Cases.{false-not-true}
+use Rattle.ledger.specs.declared.state.Opening.{Opening}
 use Rattle.ledger.specs.Ledger.{unless}
 use Rattle.form.specs.Forms.{max_file}
 use Rattle.picture.specs.Opening.{opening_of}
@@ -96,7 +97,7 @@ module _ (columns rows : ℕ) (file : List ℕ) (number place : ℕ) (e : result
   met = go (leb (length file) max_file) refl
     where
       go : (t : Bool) → leb (length file) max_file ≡ t → is_met number ≡ true
-      go true s = and-true-left (is_met number) _ (short-met (leb-true (length file) max_file s))
+      go true s = (and_parts (is_met number) _ (short-met (leb-true (length file) max_file s))).0
       go false s = ap (λ (r : Result). is_met (number_of r)) (sym e ∙ long-refused file columns rows (leb-false (length file) max_file s))
 
 only-long-refused : (columns rows : ℕ) (file : List ℕ) (place : ℕ) → result_in columns rows file ≡ refused_at 17 place → max_file < length file

@@ -10,10 +10,11 @@ use lib.Dec.{ltb}
 use lib.ListN.{length, take}
 use lib.Seq.{length-take-le}
 use borrow.Author.Tests.{ltb-false, le-ltb}
-use Rattle.floats.proofs.Cases.{or-false-left, or-false-right}
+use Rattle.std.proofs.lemmas.Bool.{or_parts}
 use Rattle.grids.proofs.Cases.{cond-none}
 use Rattle.view.specs.Limits.{max_labels, cell_words, label_words, screen_words}
-use Rattle.ledger.specs.Calls.{Opening, open_refusal}
+use Rattle.ledger.specs.Calls.{open_refusal}
+use Rattle.ledger.specs.declared.state.Opening.{Opening}
 use Rattle.ledger.specs.Ledger.{opened, unless, ledger_replies}
 use Rattle.ledger.specs.Model.{or_refusal}
 use Rattle.ledger.proofs.CallSteps.{or-none}
@@ -44,8 +45,8 @@ unfolding form_or_size
 within-limits file columns rows e =
     let o = opening_of file in
     let t = (cond-none (too_large o columns rows) 0 0 (or-none (opening_form file) _ e).1).0 in (
-      ltb-false columns o.columns (or-false-left (ltb columns o.columns) _ t),
-      ltb-false rows o.rows (or-false-right (ltb columns o.columns) _ t),
+      ltb-false columns o.columns (or_parts (ltb columns o.columns) _ t).0,
+      ltb-false rows o.rows (or_parts (ltb columns o.columns) _ t).1,
     )
 
 pub within-file : (file : List ℕ) (columns rows : ℕ) → form_or_size file columns rows ≡ 0 → length file ≤ max_file

@@ -1,6 +1,5 @@
--- Laws of a blank screen, of the part of a screen that is lent, and of what is printed, by a file's bytes alone; document 01's sample.
+-- Laws of a blank screen and of what is printed, by a file's bytes alone; document 01's sample.
 pub mod Blank
-pub mod Lent
 pub mod Prints
 pub mod FromBytes
 pub mod Ranges

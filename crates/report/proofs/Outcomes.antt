@@ -11,7 +11,8 @@ use borrow.Author.Tests.{ltb-false, le-ltb, lt-leb, eq-eqb, ne_eqb, not-false}
 use Rattle.grids.specs.Markers.{is_marker}
 use Rattle.grids.proofs.Cases.{either, cond-none}
 use Rattle.view.specs.Limits.{reset, max_draws, max_pairs, max_labels, screen_words}
-use Rattle.ledger.specs.Calls.{Opening, Call, draw, points, dot, layer, marker, print, render, bad_size, bad_bounds, bad_colour, bad_shape, bad_pairs, bad_point, bad_choice, bad_text, outside_grid, refusal}
+use Rattle.ledger.specs.Calls.{Call, draw, points, dot, layer, marker, print, render, bad_size, bad_bounds, bad_colour, bad_shape, bad_pairs, bad_point, bad_choice, bad_text, outside_grid, refusal}
+use Rattle.ledger.specs.declared.state.Opening.{Opening}
 use Rattle.ledger.specs.Ledger.{Ledger, layers, opened, refusal_in, accepted, Reply, reply, reply_unless, unless, ledger_after, ledger_reply, ledger_replies}
 use Rattle.ledger.specs.Model.{or_refusal}
 use Rattle.form.specs.Forms.{max_file, opening_map, opening_end, opening_form, kind_at, map_at, is_unknown, record_widths, record_end, record_form}
@@ -24,7 +25,7 @@ use Rattle.picture.specs.Faithful.{Result, refused_at, shown_as, last_call, judg
 use Rattle.report.specs.Program.{opening_fault, fault, blank, ledger_result, result_in, is_met}
 use Rattle.report.proofs.Blank.{length-blank}
 use Rattle.report.proofs.FromBytes.{no-fault}
-use Rattle.report.proofs.Ranges.{GoodCell, GoodLedger, screen-good, layers-good, accepted-good}
+use Rattle.report.proofs.Ranges.{GoodCell, GoodLedger, screen-good, opened-good, layers-good, accepted-good}
 
 -- ---- refusals: none, or one that a file of at most 65,536 bytes can meet
 
@@ -222,7 +223,7 @@ replies-good file short e =
     let o = opening_of file in
     let h = good-opening o e in
     let few = few-entries (length file) file (opening_end file) in
-    judged-good o h.0 (entries_of file) (entries-good (length file) file (opening_end file) short) (opened o) ((tt, (h.1, tt), tt), refl, omega (arith, few, short))
+    judged-good o h.0 (entries_of file) (entries-good (length file) file (opening_end file) short) (opened o) (opened-good o h.1, refl, omega (arith, few, short))
 
 pub result-good : (columns rows : ℕ) (file : List ℕ) → length file ≤ max_file → GoodResult (result_in columns rows file)
 unfolding result_in

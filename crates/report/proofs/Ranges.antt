@@ -1,6 +1,8 @@
 -- Every cell that the ledger shows on a blank screen has a symbol below 2^21 and two colours up to Reset: a call that is accepted keeps
 -- layers and labels so.
-use Rattle.std.specs.Prelude.{Option, Some, None, ℕ}
+use Rattle.std.specs.Prelude.{Option, Some, None}
+use Rattle.std.specs.List.{All}
+use Rattle.std.proofs.lemmas.List.Elements.{All-nil, All-cons, All-head, All-tail, All-push, All-append, All-weaker, All-map}
 use Prim.Native.Nat.{ℕ, zero, suc, ◌+◌, ◌-◌, ◌*◌, ◌/◌, ◌%◌, ◌^◌, ◌≤◌, ◌<◌}
 use mathlib.Core.Path.{◌≡◌, refl}
 use mathlib.Core.Bool.{Bool, true, false, cond, ◌&&◌, ◌||◌}
@@ -9,7 +11,7 @@ use native.Mathlib.Omega.{arith}
 use lib.Dec.{eqb, ltb, leb}
 use lib.ListN.{length, get_or}
 use borrow.Author.Tests.{ltb-true, ltb-false}
-use Rattle.floats.proofs.Cases.{or-false-left, or-false-right, and-true-right}
+use Rattle.std.proofs.lemmas.Bool.{and_parts, or_parts}
 use Rattle.walk.specs.declared.bresenham.Dot as walked
 use Rattle.grids.specs.Lists.{keep, over, last_word}
 use Rattle.grids.specs.Markers.{marker_of, is_scalar, is_marker, is_half_block, is_block}
@@ -24,8 +26,9 @@ use Rattle.grids.proofs.SymbolBounds.{symbol-lt}
 use Rattle.view.specs.Limits.{reset, max_text}
 use Rattle.view.specs.Point.{view_of}
 use Rattle.ledger.specs.Screen.{cell_on, or_else, layered, covers, label_symbol, label_foreground, labelled, in_area, start_of}
-use Rattle.ledger.specs.Calls.{Opening, Call, draw, points, dot, layer, marker, print, render, bad_colour, bad_shape, bad_pairs, bad_point, bad_choice, bad_byte, bad_bytes, bad_text, refusal, call_dots}
-use Rattle.ledger.specs.Ledger.{Layer, Label, Ledger, layers, layer_at, picture_of, choice_word, placed_of, screen_cell, accepted}
+use Rattle.ledger.specs.Calls.{Call, draw, points, dot, layer, marker, print, render, bad_colour, bad_shape, bad_pairs, bad_point, bad_choice, bad_byte, bad_bytes, bad_text, refusal, call_dots}
+use Rattle.ledger.specs.declared.state.Opening.{Opening}
+use Rattle.ledger.specs.Ledger.{Layer, Label, Ledger, layers, layer_at, picture_of, choice_word, placed_of, screen_cell, opened, accepted}
 use Rattle.ledger.specs.declared.screen.Area.{Area}
 use Rattle.ledger.specs.declared.screen.ScreenCell.{ScreenCell}
 use Rattle.ledger.proofs.Refusals.{marker-valid}
@@ -34,29 +37,11 @@ use Rattle.report.proofs.Blank.{blank-symbol, blank-colour}
 
 -- ---- of all elements of a list
 
-abbrev pub All : {A : Type 0} → (A → Type 0) → List A → Type 0
-All P [] = Unit {0}
-All P (x ∷ xs) = P x × All P xs
-
-all_append : {A : Type 0} (P : A → Type 0) (xs ys : List A) → All P xs → All P ys → All P (xs ++ ys)
-all_append P [] ys h k = k
-all_append P (x ∷ xs) ys h k = (h.0, all_append P xs ys h.1 k)
-
 all_keep : {A : Type 0} (P : A → Type 0) (test : A → Bool) (xs : List A) → All P xs → All P (keep test xs)
-all_keep P test [] h = tt
-all_keep P test (x ∷ xs) h = either (All P) (test x) (h.0, all_keep P test xs h.1) (all_keep P test xs h.1)
-
-all-by : {A : Type 0} (P Q : A → Type 0) → ((x : A) → P x → Q x) → (xs : List A) → All P xs → All Q xs
-all-by P Q f [] h = tt
-all-by P Q f (x ∷ xs) h = (f x h.0, all-by P Q f xs h.1)
-
-all_map : {A B : Type 0} (P : A → Type 0) (Q : B → Type 0) (g : A → B) → ((x : A) → P x → Q (g x)) → (xs : List A) → All P xs → All Q (map g xs)
-all_map P Q g f [] h = tt
-all_map P Q g f (x ∷ xs) h = (f x h.0, all_map P Q g f xs h.1)
-
-all_made : {A B : Type 0} (Q : B → Type 0) (g : A → B) → ((x : A) → Q (g x)) → (xs : List A) → All Q (map g xs)
-all_made Q g f [] = tt
-all_made Q g f (x ∷ xs) = (f x, all_made Q g f xs)
+all_keep P test [] h = h
+all_keep P test (x ∷ xs) h =
+    let rest = all_keep P test xs (All-tail P x xs h) in
+    either (All P) (test x) (All-cons P x (keep test xs) (All-head P x xs h) rest) rest
 
 over-le : (upper lower b : ℕ) → upper ≤ b → lower ≤ b → over upper lower ≤ b
 over-le zero lower b h k = k
@@ -64,7 +49,7 @@ over-le (suc upper) lower b h k = h
 
 last-le : {A : Type 0} (word : A → ℕ) (b : ℕ) (xs : List A) → All (λ x. word x ≤ b) xs → last_word word xs ≤ b
 last-le word b [] h = omega arith
-last-le word b (x ∷ xs) h = over-le (last_word word xs) (word x) b (last-le word b xs h.1) h.0
+last-le word b (x ∷ xs) h = over-le (last_word word xs) (word x) b (last-le word b xs (All-tail (λ y. word y ≤ b) x xs h)) (All-head (λ y. word y ≤ b) x xs h)
 
 or-else-le : (word old b : ℕ) → word ≤ suc b → old ≤ b → or_else word old ≤ b
 or-else-le zero old b h k = k
@@ -95,7 +80,7 @@ scalar_below c e = go (ltb c 0xD800) refl e
   where
     go : (t : Bool) → ltb c 0xD800 ≡ t → t || (leb 0xE000 c && ltb c 0x110000) ≡ true → c < 2 ^ 21
     go true s e = omega (arith, ltb-true c 0xD800 s)
-    go false s e = omega (arith, ltb-true c 0x110000 (and-true-right (leb 0xE000 c) (ltb c 0x110000) e))
+    go false s e = omega (arith, ltb-true c 0x110000 (and_parts (leb 0xE000 c) (ltb c 0x110000) e).1)
 
 symbol-below : (m character pattern : ℕ) → is_marker m character ≡ true → symbol_of (marker_of m) character pattern < 2 ^ 21
 unfolding is_marker marker_of
@@ -139,9 +124,9 @@ layer-small columns i l h = set-small l.marker l.character (in_cell (marker_of l
 picture-small : (columns : ℕ) (ls : List Layer) (i : ℕ) → All GoodLayer ls → Small (picture_of columns ls i)
 unfolding picture_of
 picture-small columns ls i h = (
-  last-le (λ (l : Layer). (layer_at columns i l).symbol) (2 ^ 21) ls (all-by GoodLayer _ (λ l g. (layer-small columns i l g).0) ls h),
-  last-le (λ (l : Layer). (layer_at columns i l).foreground) (suc reset) ls (all-by GoodLayer _ (λ l g. (layer-small columns i l g).1) ls h),
-  last-le (λ (l : Layer). (layer_at columns i l).background) (suc reset) ls (all-by GoodLayer _ (λ l g. (layer-small columns i l g).2) ls h),
+  last-le (λ (l : Layer). (layer_at columns i l).symbol) (2 ^ 21) ls (All-weaker GoodLayer _ (λ l g. (layer-small columns i l g).0) ls h),
+  last-le (λ (l : Layer). (layer_at columns i l).foreground) (suc reset) ls (All-weaker GoodLayer _ (λ l g. (layer-small columns i l g).1) ls h),
+  last-le (λ (l : Layer). (layer_at columns i l).background) (suc reset) ls (All-weaker GoodLayer _ (λ l g. (layer-small columns i l g).2) ls h),
 )
 
 -- ---- labels
@@ -156,18 +141,18 @@ choice-small (Some colour) e = omega (arith, ltb-false reset colour e)
 text-small : (text : List ℕ) → bad_bytes text ≡ false → (k : ℕ) → get_or text k 0 ≤ 0x7E
 unfolding bad_bytes
 text-small [] e k = omega arith
-text-small (byte ∷ text) e zero = ltb-false 0x7E byte (or-false-right (ltb byte 0x20) (ltb 0x7E byte) (or-false-left (bad_byte byte) (bad_bytes text) e))
-text-small (byte ∷ text) e (suc k) = text-small text (or-false-right (bad_byte byte) (bad_bytes text) e) k
+text-small (byte ∷ text) e zero = ltb-false 0x7E byte (or_parts (ltb byte 0x20) (ltb 0x7E byte) (or_parts (bad_byte byte) (bad_bytes text) e).0).1
+text-small (byte ∷ text) e (suc k) = text-small text (or_parts (bad_byte byte) (bad_bytes text) e).1 k
 
 module _ (o : Opening) (column row : ℕ) (labels : List Label) (h : All GoodLabel labels) where
   label-symbols : last_word (label_symbol column row) (map (placed_of o) labels) ≤ 2 ^ 21
-  label-symbols = last-le (label_symbol column row) (2 ^ 21) (map (placed_of o) labels) (all_map GoodLabel _ (placed_of o) one labels h)
+  label-symbols = last-le (label_symbol column row) (2 ^ 21) (map (placed_of o) labels) (All-map (λ l. label_symbol column row l ≤ 2 ^ 21) (placed_of o) labels (All-weaker GoodLabel _ one labels h))
     where
       one : (l : Label) → GoodLabel l → label_symbol column row (placed_of o l) ≤ 2 ^ 21
       one l g = either (λ (n : ℕ). n ≤ 2 ^ 21) (covers (placed_of o l) column row) (omega (arith, g.1 (column - start_of (placed_of o l).place))) (omega arith)
 
   label-foregrounds : last_word (label_foreground column row) (map (placed_of o) labels) ≤ suc reset
-  label-foregrounds = last-le (label_foreground column row) (suc reset) (map (placed_of o) labels) (all_map GoodLabel _ (placed_of o) one labels h)
+  label-foregrounds = last-le (label_foreground column row) (suc reset) (map (placed_of o) labels) (All-map (λ l. label_foreground column row l ≤ suc reset) (placed_of o) labels (All-weaker GoodLabel _ one labels h))
     where
       one : (l : Label) → GoodLabel l → label_foreground column row (placed_of o l) ≤ suc reset
       one l g = either (λ (n : ℕ). n ≤ suc reset) (covers (placed_of o l) column row) g.0 (omega arith)
@@ -210,12 +195,15 @@ screen-good o ls labels a n j b h k =
 abbrev pub GoodLedger : Ledger → Type 0
 GoodLedger l = All GoodLayer l.before × GoodLayer l.last × All GoodLabel l.labels
 
+pub opened-good : (o : Opening) → is_marker o.marker o.character ≡ true → GoodLedger (opened o)
+opened-good o e = (All-nil GoodLayer, (e, All-nil Coloured), All-nil GoodLabel)
+
 pub layers-good : (l : Ledger) → GoodLedger l → All GoodLayer (layers l)
-layers-good l g = all_append GoodLayer l.before (l.last ∷ []) g.0 (g.1, tt)
+layers-good l g = All-push GoodLayer l.before l.last g.0 g.1
 
 module _ (o : Opening) (l : Ledger) (g : GoodLedger l) where
   inked-good : (colour : ℕ) (dots : List walked.Dot) → bad_colour colour ≡ false → All Coloured (l.last.dots ++ inked colour dots)
-  inked-good colour dots e = all_append Coloured l.last.dots (inked colour dots) g.1.1 (all_made Coloured _ (λ d. omega (arith, ltb-false reset colour e)) dots)
+  inked-good colour dots e = All-append Coloured l.last.dots (inked colour dots) g.1.1 (All-map Coloured _ dots (λ k d lt. omega (arith, ltb-false reset colour e)))
 
   abbrev dots_of : Call → List walked.Dot
   dots_of c = call_dots (view_of o.bounds o.columns o.rows (marker_of l.last.marker)) c
@@ -225,10 +213,10 @@ module _ (o : Opening) (l : Ledger) (g : GoodLedger l) where
   accepted-good (draw shape colour) e = (g.0, (g.1.0, inked-good colour (dots_of (draw shape colour)) (cond-none (bad_colour colour) 2 _ (cond-none (bad_shape shape) 1 _ e).1).0), g.2)
   accepted-good (points pairs colour) e = (g.0, (g.1.0, inked-good colour (dots_of (points pairs colour)) (cond-none (bad_colour colour) 2 _ (cond-none (bad_pairs pairs) 1 _ e).1).0), g.2)
   accepted-good (dot column row colour) e = (g.0, (g.1.0, inked-good colour (dots_of (dot column row colour)) (cond-none (bad_colour colour) 2 _ e).0), g.2)
-  accepted-good layer e = (layers-good l g, (g.1.0, tt), g.2)
-  accepted-good (marker m character) e = (layers-good l g, (marker-valid o l.draws (length l.labels) l.last.marker m character e, tt), g.2)
+  accepted-good layer e = (layers-good l g, (g.1.0, All-nil Coloured), g.2)
+  accepted-good (marker m character) e = (layers-good l g, (marker-valid o l.draws (length l.labels) l.last.marker m character e, All-nil Coloured), g.2)
   accepted-good (print x y text choice) e =
       let e₁ = cond-none (bad_choice choice) 2 _ (cond-none (bad_point x y) 1 _ e).1 in
       let e₂ = (cond-none (bad_text text) 9 _ e₁.1).0 in
-      (g.0, g.1, all_append GoodLabel l.labels _ g.2 ((choice-small choice e₁.0, text-small text (or-false-right (ltb max_text (length text)) (bad_bytes text) e₂)), tt))
-  accepted-good (render area words) e = (layers-good l g, (g.1.0, tt), g.2)
+      (g.0, g.1, All-push GoodLabel l.labels _ g.2 (choice-small choice e₁.0, text-small text ((or_parts (ltb max_text (length text)) (bad_bytes text) e₂).1)))
+  accepted-good (render area words) e = (layers-good l g, (g.1.0, All-nil Coloured), g.2)

@@ -5,7 +5,8 @@ use Rattle.grids.specs.Lists.{first}
 use Rattle.grids.specs.Markers.{is_marker}
 use Rattle.view.specs.Limits.{reset}
 use Rattle.ledger.specs.declared.screen.ScreenCell.{ScreenCell}
-use Rattle.ledger.specs.Calls.{Opening, Call, bad_size, bad_bounds, bad_colour}
+use Rattle.ledger.specs.Calls.{Call, bad_size, bad_bounds, bad_colour}
+use Rattle.ledger.specs.declared.state.Opening.{Opening}
 use Rattle.ledger.specs.Ledger.{opened, unless, ledger_replies}
 use Rattle.ledger.specs.Model.{or_refusal}
 use Rattle.form.specs.Forms.{max_file}

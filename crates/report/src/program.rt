@@ -10,15 +10,18 @@ ghost use Rattle.report.specs.Program.{printed_in, layout_prints, show_prints};
 
 use crate::screen::{blank_screen, picture_size};
 use form::fields::FieldValue;
+use picture::opening::Largest;
 use picture::run::draw_picture;
 use text::listing::{write_listing, write_refusal};
+use text::screen::Screen;
 use text::terminal::write_terminal;
 
-// The widest and the highest canvas; the stores for it, five words a cell and 44 for each of 64 labels; and
-// its screen, three words a cell.
-const WIDEST: u16 = 80;
-
-const HIGHEST: u16 = 24;
+// The largest canvas; the stores for it, five words a cell and 44 for each of 64 labels; and its screen, three
+// words a cell.
+const LARGEST: Largest = Largest {
+    columns: 80,
+    rows: 24,
+};
 
 const CELL_STORE: usize = 9600;
 
@@ -30,8 +33,8 @@ const SCREEN: usize = 5760;
 trait Output {
     ghost text: { ℕ → ℕ → ℕ → Cells → List ℕ };
 
-    fn write(columns: u16, rows: u16, painted: u64, screen: &[u32], out: &mut [u8]) -> usize
-        ensures { (out.new ≡ laid out.old 0 (text columns rows painted (cells_of screen.now))) × (result ≡ length (text columns rows painted (cells_of screen.now))) };
+    fn write(screen: Screen<'_>, painted: u64, out: &mut [u8]) -> usize
+        ensures { (out.new ≡ laid out.old 0 (text screen.entry.columns screen.entry.rows painted (cells_of screen.entry.words.now))) × (result ≡ length (text screen.entry.columns screen.entry.rows painted (cells_of screen.entry.words.now))) };
 }
 
 struct Layout;
@@ -39,8 +42,8 @@ struct Layout;
 impl Output for Layout {
     ghost text = { listing };
 
-    fn write(columns: u16, rows: u16, painted: u64, screen: &[u32], out: &mut [u8]) -> usize {
-        write_listing(columns, rows, painted, screen, out)
+    fn write(screen: Screen<'_>, painted: u64, out: &mut [u8]) -> usize {
+        write_listing(screen, painted, out)
     }
 }
 
@@ -49,8 +52,8 @@ struct Show;
 impl Output for Show {
     ghost text = { λ columns rows painted cells. terminal columns rows cells };
 
-    fn write(columns: u16, rows: u16, _painted: u64, screen: &[u32], out: &mut [u8]) -> usize {
-        write_terminal(columns, rows, screen, out)
+    fn write(screen: Screen<'_>, _painted: u64, out: &mut [u8]) -> usize {
+        write_terminal(screen, out)
     }
 }
 
@@ -58,29 +61,24 @@ impl Output for Show {
 // how many bytes it has, also those past the end of out.
 fn print_on<P: Output>(
     file: &[u8],
-    widest: u16,
-    highest: u16,
+    largest: Largest,
     cells: &mut [u32],
     labels: &mut [u32],
     screen: &mut [u32],
     out: &mut [u8],
 ) -> usize
-    ensures { (out.new ≡ laid out.old 0 (printed_of P.text file.now (on_blank file.now widest highest cells.old labels.old screen.old)))
-        × (result ≡ length (printed_of P.text file.now (on_blank file.now widest highest cells.old labels.old screen.old))) }
+    ensures { (out.new ≡ laid out.old 0 (printed_of P.text file.now (on_blank file.now largest.columns largest.rows cells.old labels.old screen.old)))
+        × (result ≡ length (printed_of P.text file.now (on_blank file.now largest.columns largest.rows cells.old labels.old screen.old))) }
 {
     blank_screen(&mut *screen);
-    match draw_picture(
-        file,
-        widest,
-        highest,
-        &mut *cells,
-        &mut *labels,
-        &mut *screen,
-    ) {
+    match draw_picture(file, largest, &mut *cells, &mut *labels, &mut *screen) {
         Ok(rendered) => {
-            let columns = u16::read(file, 0);
-            let rows = u16::read(file, 2);
-            P::write(columns, rows, rendered.painted, &*screen, &mut *out)
+            let shown = Screen {
+                columns: u16::read(file, 0),
+                rows: u16::read(file, 2),
+                words: &*screen,
+            };
+            P::write(shown, rendered.painted, &mut *out)
         }
         Err(fault) => write_refusal(u8::from(fault.refusal), fault.place, &mut *out),
     }
@@ -93,11 +91,10 @@ fn print<P: Output>(file: &[u8], out: &mut [u8]) -> usize
     let mut cells = [0u32; CELL_STORE];
     let mut labels = [0u32; LABEL_STORE];
     let mut screen = [0u32; SCREEN];
-    let n = picture_size(file, WIDEST, HIGHEST);
+    let n = picture_size(file, LARGEST);
     print_on::<P>(
         file,
-        WIDEST,
-        HIGHEST,
+        LARGEST,
         &mut cells,
         &mut labels,
         &mut screen[..n],

@@ -3,8 +3,7 @@
 #![tactic(auto)]
 
 use canvas::calls::{Rendered, dot, draw, get_point, open, print, render, zero_canvas};
-use ledger::screen::Area;
-use ledger::state::Canvas;
+use ledger::state::{Canvas, Opening};
 use refusals::refusal::Refusal;
 use shapes::painters::Shape;
 use std::io;
@@ -68,12 +67,20 @@ fn show_screen(rt: &impl Print, screen: &[u32]) -> io::Result<()> {
     println!(rt)
 }
 
-fn bounds(high: f64) -> Bounds {
-    Bounds {
-        left: 0.0,
-        right: high,
-        bottom: 0.0,
-        top: high,
+// A canvas with bounds from 0 to this, and no character or background of its own.
+fn opening(columns: u16, rows: u16, high: f64, marker: u8) -> Opening {
+    Opening {
+        columns,
+        rows,
+        bounds: Bounds {
+            left: 0.0,
+            right: high,
+            bottom: 0.0,
+            top: high,
+        },
+        marker,
+        character: 0,
+        background: 0,
     }
 }
 
@@ -83,16 +90,11 @@ fn dot_past_row_end(rt: &impl Print, marker: u8) -> io::Result<()> {
     let mut cells = [0u32; 30];
     let labels = [0u32; 2816];
     let mut screen = [0u32; 18];
-    let opened = open(3, 2, bounds(10.0), marker, 0, 0, &mut cells, &labels);
+    let opened = open(opening(3, 2, 10.0, marker), &mut cells, &labels);
     opened.show(rt)?;
     let mut canvas = opened.unwrap_or(zero_canvas());
     dot(&mut canvas, &mut cells, &labels, 3, 0, 255).show(rt)?;
-    let area = Area {
-        columns: 3,
-        rows: 2,
-        x: 0,
-        y: 0,
-    };
+    let area = canvas.area();
     render(&mut canvas, &mut cells, &labels, area, &mut screen).show(rt)?;
     show_screen(rt, &screen)
 }
@@ -103,16 +105,11 @@ fn label_truncated(rt: &impl Print) -> io::Result<()> {
     let mut cells = [0u32; 55];
     let mut labels = [0u32; 2816];
     let mut screen = [0u32; 33];
-    let opened = open(11, 1, bounds(10.0), 2, 0, 0, &mut cells, &labels);
+    let opened = open(opening(11, 1, 10.0, 2), &mut cells, &labels);
     let mut canvas = opened.unwrap_or(zero_canvas());
     get_point(canvas, 1.9, 0.0).show(rt)?;
     print(&mut canvas, &cells, &mut labels, 1.9, 0.0, b"A", None).show(rt)?;
-    let area = Area {
-        columns: 11,
-        rows: 1,
-        x: 0,
-        y: 0,
-    };
+    let area = canvas.area();
     render(&mut canvas, &mut cells, &labels, area, &mut screen).show(rt)?;
     show_screen(rt, &screen)
 }
@@ -123,7 +120,7 @@ fn all_bounds_zero(rt: &impl Print) -> io::Result<()> {
     let mut cells = [0u32; 20];
     let mut labels = [0u32; 2816];
     let mut screen = [0u32; 12];
-    let opened = open(2, 2, bounds(0.0), 1, 0, 0, &mut cells, &labels);
+    let opened = open(opening(2, 2, 0.0, 1), &mut cells, &labels);
     let mut canvas = opened.unwrap_or(zero_canvas());
     let line = Shape::Line(Segment {
         x1: 0.0,
@@ -133,12 +130,7 @@ fn all_bounds_zero(rt: &impl Print) -> io::Result<()> {
     });
     draw(&mut canvas, &mut cells, &labels, line, 255).show(rt)?;
     print(&mut canvas, &cells, &mut labels, 0.0, 0.0, b"A", Some(7)).show(rt)?;
-    let area = Area {
-        columns: 2,
-        rows: 2,
-        x: 0,
-        y: 0,
-    };
+    let area = canvas.area();
     render(&mut canvas, &mut cells, &labels, area, &mut screen).show(rt)?;
     show_screen(rt, &screen)
 }
@@ -148,12 +140,12 @@ fn limits(rt: &impl Print) -> io::Result<()> {
     println!(rt; "Limits")?;
     let mut cells = [0u32; 1005];
     let mut labels = [0u32; 2816];
-    open(200, 1, bounds(1.0), 2, 0, 0, &mut cells, &labels).show(rt)?;
-    open(201, 1, bounds(1.0), 2, 0, 0, &mut cells, &labels).show(rt)?;
-    let highest = open(1, 1, bounds(1099511627776.0), 2, 0, 0, &mut cells, &labels);
+    open(opening(200, 1, 1.0, 2), &mut cells, &labels).show(rt)?;
+    open(opening(201, 1, 1.0, 2), &mut cells, &labels).show(rt)?;
+    let highest = open(opening(1, 1, 1099511627776.0, 2), &mut cells, &labels);
     highest.show(rt)?;
-    let higher = bounds(1099511627776.000244140625);
-    open(1, 1, higher, 2, 0, 0, &mut cells, &labels).show(rt)?;
+    let higher = opening(1, 1, 1099511627776.000244140625, 2);
+    open(higher, &mut cells, &labels).show(rt)?;
     let mut canvas = highest.unwrap_or(zero_canvas());
     let text = [65u8; 41];
     print(

@@ -6,14 +6,14 @@ use native.Mathlib.Omega.{arith}
 use lib.IntN.{ℤ, pos}
 use lib.Ieee.{Float, nan, inf, fin, of_bits, neg, mul, up, down, lt, le, below}
 use borrow.Author.Tests.{leb-true, le-ltb}
+use Rattle.std.proofs.lemmas.Bool.{and_parts}
 use Rattle.floats.specs.Arithmetic.{◌⊗◌, bits}
 use Rattle.floats.specs.Polyfills.{1·0, mul_add_of}
-use Rattle.floats.proofs.Cases.{false-not-true, and-true-left, and-true-right}
+use Rattle.floats.proofs.Cases.{false-not-true}
 use Rattle.floats.proofs.Monotone.{le-not-above, above-highest, below-lowest, le-numbers, not-below-trans, add-order, mul-order}
 use Rattle.angles.specs.Angles.{cos_at, sin_at}
 use Rattle.angles.proofs.AngleSizes.{at_most_one, cos-sized, sin-sized}
 use Rattle.walk.specs.declared.clip.Bounds.{Bounds}
-use Rattle.grids.proofs.Cases.{both}
 use Rattle.view.specs.Point.{outside_bounds, inside_bounds}
 use Rattle.shapes.specs.Drawing.{CircleInDomain}
 use Rattle.shapes.proofs.InsideOrOutside.{NumberBounds, point-number, not-outside-inside}
@@ -59,10 +59,19 @@ module _ (r c x : Float) (h : lt (bits 0) r ≡ true) (k : at_most_one c ≡ tru
       not-below-trans (mul_add_of r c x) (mul_add_of r (neg 1·0) x) low (le-numbers low (mul_add_of r (neg 1·0) x) l).1
       (add-order (r ⊗ c) (r ⊗ neg 1·0) x (product-least r c h k)) (le-not-above low (mul_add_of r (neg 1·0) x) l)
 
--- ---- both axes
+-- ---- and_parts axes
 -- the tests of the outermost points
 abbrev pub tested : Bounds → Float → Float → Float → Float → Float → Bool
 tested b radius left right bottom top = lt (bits 0) radius && (le b.left left && le right b.right) && (le b.bottom bottom && le top b.top)
+
+abbrev Tests : Bounds → Float → Float → Float → Float → Float → Type 0
+Tests b radius left right bottom top =
+    (lt (bits 0) radius ≡ true) × (((le b.left left ≡ true) × (le right b.right ≡ true)) × ((le b.bottom bottom ≡ true) × (le top b.top ≡ true)))
+
+tests : (b : Bounds) (radius left right bottom top : Float) → tested b radius left right bottom top ≡ true → Tests b radius left right bottom top
+tests b radius left right bottom top h =
+    let t = and_parts _ _ h in
+    let u = and_parts _ _ t.0 in (u.0, (and_parts _ _ u.1, and_parts _ _ t.1))
 
 within : (b : Bounds) (x y : Float) → lt x b.left ≡ false → lt b.right x ≡ false → lt y b.bottom ≡ false → lt b.top y ≡ false → outside_bounds b x y ≡ false
 unfolding outside_bounds
@@ -70,40 +79,33 @@ within b x y left right bottom top = rw (left, right, bottom, top)
 
 not-outside : (b : Bounds) (x y radius left right bottom top : Float)
     → left ≡ mul_add_of radius (neg 1·0) x → right ≡ mul_add_of radius 1·0 x → bottom ≡ mul_add_of radius (neg 1·0) y → top ≡ mul_add_of radius 1·0 y
-    → tested b radius left right bottom top ≡ true
+    → Tests b radius left right bottom top
     → (angle : ℕ) → angle < 360 → outside_bounds b (mul_add_of radius (cos_at angle) x) (mul_add_of radius (sin_at angle) y) ≡ false
-not-outside b x y radius left right bottom top el er eb et h angle a =
-    let sides = le b.left left && le right b.right in
-    let ends = le b.bottom bottom && le top b.top in
-    let first = and-true-left (lt (bits 0) radius && sides) ends h in
-    let r = and-true-left (lt (bits 0) radius) sides first in
-    let s = and-true-right (lt (bits 0) radius) sides first in
-    let e = and-true-right (lt (bits 0) radius && sides) ends h in
+not-outside b x y radius left right bottom top el er eb et t angle a =
     let c = cos-sized angle a in
     let d = sin-sized angle a in
     within b (mul_add_of radius (cos_at angle) x) (mul_add_of radius (sin_at angle) y)
-    (not-below radius (cos_at angle) x r c b.left (rw el at (and-true-left (le b.left left) (le right b.right) s)))
-    (not-above radius (cos_at angle) x r c b.right (rw er at (and-true-right (le b.left left) (le right b.right) s)))
-    (not-below radius (sin_at angle) y r d b.bottom (rw eb at (and-true-left (le b.bottom bottom) (le top b.top) e)))
-    (not-above radius (sin_at angle) y r d b.top (rw et at (and-true-right (le b.bottom bottom) (le top b.top) e)))
+    (not-below radius (cos_at angle) x t.0 c b.left (rw el at t.1.0.0))
+    (not-above radius (cos_at angle) x t.0 c b.right (rw er at t.1.0.1))
+    (not-below radius (sin_at angle) y t.0 d b.bottom (rw eb at t.1.1.0))
+    (not-above radius (sin_at angle) y t.0 d b.top (rw et at t.1.1.1))
 
 -- the tests are with numbers alone
-tested-numbers : (b : Bounds) (radius left right bottom top : Float) → tested b radius left right bottom top ≡ true → NumberBounds b
-tested-numbers b radius left right bottom top h =
-    let sides = le b.left left && le right b.right in
-    let ends = le b.bottom bottom && le top b.top in
-    let t = both (lt (bits 0) radius && sides) ends h in
-    let s = both (le b.left left) (le right b.right) (both (lt (bits 0) radius) sides t.0).1 in
-    let e = both (le b.bottom bottom) (le top b.top) t.1 in (
-      ((le-numbers b.left left s.0).0, (le-numbers right b.right s.1).1),
-      ((le-numbers b.bottom bottom e.0).0, (le-numbers top b.top e.1).1),
-    )
+tested-numbers : (b : Bounds) (radius left right bottom top : Float) → Tests b radius left right bottom top → NumberBounds b
+tested-numbers b radius left right bottom top t = (
+  ((le-numbers b.left left t.1.0.0).0, (le-numbers right b.right t.1.0.1).1),
+  ((le-numbers b.bottom bottom t.1.1.0).0, (le-numbers top b.top t.1.1.1).1),
+)
 
 pub circle-inside : (b : Bounds) (x y radius left right bottom top : Float) → CircleInDomain x y radius
     → left ≡ mul_add_of radius (neg 1·0) x → right ≡ mul_add_of radius 1·0 x → bottom ≡ mul_add_of radius (neg 1·0) y → top ≡ mul_add_of radius 1·0 y
     → tested b radius left right bottom top ≡ true
     → (angle : ℕ) → angle < 360 → inside_bounds b (mul_add_of radius (cos_at angle) x) (mul_add_of radius (sin_at angle) y) ≡ true
 circle-inside b x y radius left right bottom top d el er eb et h angle a =
-    not-outside-inside b (mul_add_of radius (cos_at angle) x) (mul_add_of radius (sin_at angle) y) (tested-numbers b radius left right bottom top h)
+    let t = tests b radius left right bottom top h in
+    not-outside-inside b (mul_add_of radius (cos_at angle) x) (mul_add_of radius (sin_at angle) y) (tested-numbers b radius left right bottom top t)
     (point-number radius (cos_at angle) x d.1.1 (cos-sized angle a) d.0) (point-number radius (sin_at angle) y d.1.1 (sin-sized angle a) d.1.0)
-    (not-outside b x y radius left right bottom top el er eb et h angle a)
+    (not-outside b x y radius left right bottom top el er eb et t angle a)
+
+-- for the function that tests the outermost points
+pub ruleset points_inside = (circle-inside)

@@ -3,7 +3,7 @@ use Prim.Native.Nat.{ℕ, ◌+◌, ◌*◌, ◌<◌}
 use mathlib.Core.Path.{◌≡◌, refl, sym, ◌∙◌}
 use mathlib.Core.Bool.{true, false}
 use mathlib.Core.List.{List, [], ◌∷◌}
-use native.Mathlib.Omega.{arith}
+use native.Mathlib.Nat.{add-zero}
 use lib.Ieee.{Float}
 use lib.ListN.{length, get_or}
 use Rattle.std.specs.Prelude.{Option, Some, None}
@@ -24,9 +24,9 @@ use Rattle.shapes.proofs.PaintLists.{angle-next, table-cos, table-sin}
 use Rattle.shapes.proofs.InsideOrOutside.{point-number, not-inside-nowhere}
 
 -- a dot painted in a loop that keeps the store's length, with the cells held counted before it
-pub braille-painted : (p : Painter) (before between after : List ℕ) (end : ℕ) (d : Dot) → RegularBraille p → end ≡ cells_held before p.columns p.rows → length between ≡ length before
-    → after ≡ braille_dot p.columns end between d.column d.row p.word → after ≡ painted_by p between (d ∷ [])
-braille-painted p before between after end d braille held same h = braille-dot p between after end d (rw same held) braille.0 h
+pub braille-painted : (p : Painter) (before between after : List ℕ) (end : ℕ) (d : Dot) → RegularBraille p → end ≡ cells_held before p.grid.columns p.grid.rows → length between ≡ length before
+    → after ≡ braille_dot p.grid.columns end between d.column d.row p.word → after ≡ painted_by p between (d ∷ [])
+braille-painted p before between after end d braille held same h = braille-dot p between after end d.column d.row (rw same held) braille.0 h
 
 module _ (p : Painter) (x y radius : Float) (k : ℕ) (t : List Float) (e u w : Float) (a : t ≡ angle_table) (l : k < 360)
     (f : u ≡ mul_add_of radius (get_or t (k * 2) e) x) (g : w ≡ mul_add_of radius (get_or t (k * 2 + 1) e) y) where
@@ -50,7 +50,4 @@ module _ (p : Painter) (x y radius : Float) (k : ℕ) (t : List Float) (e u w : 
 
     pub turn-none : CircleInDomain x y radius → regular_view p.view ≡ true → inside_bounds p.view.bounds u w ≡ false → n ≡ m → after ≡ between
         → Painted p before (angles p.view x y radius (k + 1)) n after
-    turn-none domain regular q c r = rw (c ∙ none m) (found None 0 (turn-nowhere domain regular q) (refl, r))
-      where
-        none : (j : ℕ) → j ≡ j + 0
-        none j = omega arith
+    turn-none domain regular q c r = rw (c ∙ sym (add-zero m)) (found None 0 (turn-nowhere domain regular q) (refl, r))

@@ -1,15 +1,17 @@
 -- How many dots a shape has, and that it has at most 160,000 on a canvas of at most 200 by 100 cells:
 -- a walk has no more dots than the larger side, and a filled column no more than the height.
-use mathlib.Core.Path.{◌≡◌, refl, sym, ap, ◌∙◌}
+use mathlib.Core.Path.{◌≡◌, refl}
 use mathlib.Core.Bool.{Bool, true, false, cond, ◌||◌}
-use mathlib.Core.List.{List, [], ◌∷◌, ◌++◌}
-use Prim.Native.Nat.{ℕ, zero, suc, ◌+◌, ◌-◌, ◌*◌, ◌≤◌, ◌<◌, max, min, zero-le}
-use native.Mathlib.Nat.{mul-le-mul, mul-le-mul_right, le_trans, le_of_eq}
+use mathlib.Core.List.{List, [], ◌∷◌}
+use Prim.Native.Nat.{ℕ, zero, suc, ◌+◌, ◌-◌, ◌*◌, ◌≤◌, ◌<◌, max, zero-le}
+use native.Mathlib.Nat.{mul-le-mul, mul-le-mul_right, le_trans, max-le, min-le_right}
 use native.Mathlib.Omega.{arith}
 use lib.Dec.{lit≤}
 use lib.Ieee.{Float}
 use lib.ListN.{length, length-append}
 use Rattle.std.specs.Prelude.{Option, Some, None}
+use Rattle.std.specs.List.{sum_by}
+use Rattle.std.proofs.lemmas.List.Sums.{sum_by-append, sum_by-cons}
 use Rattle.floats.specs.Arithmetic.{◌⊕◌}
 use Rattle.floats.specs.Methods.{clamp_of}
 use Rattle.walk.specs.declared.clip.Bounds.{Bounds}
@@ -29,10 +31,11 @@ use Rattle.view.specs.Point.{outside_bounds, flat_bounds, scaled_of, point_of, v
 use Rattle.lines.specs.Painted.{flat, column_to}
 use Rattle.shapes.specs.Shapes.{point_dots, dots_between, clipped_line, line_points, filled_dots, filled_between, clipped_fill, filled_points, segment, rectangle_points, angle_point, angles, circle_points, pair_dots}
 use Rattle.shapes.specs.Drawing.{shape_dots}
-use Rattle.shapes.specs.declared.painters.Pair.{Pair}
+use Rattle.walk.specs.declared.clip.Pair.{Pair}
 use Rattle.view.specs.declared.point.View.{View}
 use Rattle.shapes.specs.declared.painters.Shape.{Shape}
 use Rattle.shapes.specs.declared.painters.Shape.TheVariants as shapes
+use Rattle.shapes.proofs.PaintLists.{point-le}
 
 -- ---- the painted numbers of document 01, 'Shapes'
 
@@ -43,27 +46,16 @@ ends x1 y1 x2 y2 = record { x1 = x1; y1 = y1; x2 = x2; y2 = y2 }
 pub line-painted : (x1 y1 x2 y2 : ℕ) → length (dots_between (Some (x1, y1)) (Some (x2, y2))) ≡ max (apart x1 x2) (apart y1 y2) + 1
 line-painted x1 y1 x2 y2 = length-line (ends x1 y1 x2 y2)
 
--- the sum of f over a list
-abbrev pub total : {A : Type 0} → (A → ℕ) → List A → ℕ
-total f [] = 0
-total f (x ∷ xs) = f x + total f xs
-
-length-flat : {A B : Type 0} (f : A → List B) (xs : List A) → length (flat f xs) ≡ total (λ x. length (f x)) xs
-length-flat f [] = refl
-length-flat f (x ∷ xs) = length-append (f x) (flat f xs) ∙ ap (λ (n : ℕ). length (f x) + n) (length-flat f xs)
-
-total-same : {A : Type 0} (f g : A → ℕ) (xs : List A) → ((x : A) → f x ≡ g x) → total f xs ≡ total g xs
-total-same f g [] h = refl
-total-same f g (x ∷ xs) h = rw (h x, total-same f g xs h)
-
 -- the dots of a column, to the row of the fill
 abbrev column_count : ℕ → Dot → ℕ
 column_count fill_row d = apart d.row fill_row + 1
 
-pub filled-painted : (e : Ends) (column fill_row : ℕ) → length (filled_dots e (Some (column, fill_row))) ≡ total (λ d. apart d.row fill_row + 1) (line_dots e)
-filled-painted e column fill_row =
-    length-flat (column_to fill_row) (line_dots e)
-    ∙ total-same (λ d. length (column_to fill_row d)) (column_count fill_row) (line_dots e) (λ d. length-tabulate (apart d.row fill_row + 1) _)
+pub filled-painted : (e : Ends) (column fill_row : ℕ) → length (filled_dots e (Some (column, fill_row))) ≡ sum_by (λ d. apart d.row fill_row + 1) (line_dots e)
+filled-painted e column fill_row = go (line_dots e)
+  where
+    go : (dots : List Dot) → length (flat (column_to fill_row) dots) ≡ sum_by (column_count fill_row) dots
+    go [] = refl
+    go (d ∷ dots) = rw (length-append, sum_by-cons, length-tabulate, go dots)
 
 pub rectangle-painted : (v : View) (x y width height : Float)
     → length (rectangle_points v x y width height)
@@ -76,10 +68,7 @@ rectangle-painted v x y width height = simp length-append
 
 scaled-inside : (distance : Float) (dots : ℕ) (width : Float) → scaled_of distance dots width ≤ dots - 1
 unfolding scaled_of
-scaled-inside distance dots width = lower _ (dots - 1)
-  where
-    lower : (a b : ℕ) → min a b ≤ b
-    lower a b = omega arith
+scaled-inside distance dots width = min-le_right _ (dots - 1)
 
 abbrev Inside : View → Option (ℕ × ℕ) → Type 0
 Inside v (Some (c, r)) = (c ≤ v.width - 1) × (r ≤ v.height - 1)
@@ -124,14 +113,10 @@ line-side v s = go (clip_of v.bounds s).line
     go (Some t) = line-between v (point_of v t.x1 t.y1) (point_of v t.x2 t.y2) (found_inside v t.x1 t.y1) (found_inside v t.x2 t.y2)
     go None = zero-le
 
-total-append : {A : Type 0} (f : A → ℕ) (xs ys : List A) → total f (xs ++ ys) ≡ total f xs + total f ys
-total-append f [] ys = omega arith
-total-append f (x ∷ xs) ys = rw (total-append f xs ys) (omega arith)
-
 -- n entries of at most b
-total_at_most : {A : Type 0} (f : A → ℕ) (n b : ℕ) (g : ℕ → A) → ((k : ℕ) → k < n → f (g k) ≤ b) → total f (tabulate n g) ≤ n * b
+total_at_most : {A : Type 0} (f : A → ℕ) (n b : ℕ) (g : ℕ → A) → ((k : ℕ) → k < n → f (g k) ≤ b) → sum_by f (tabulate n g) ≤ n * b
 total_at_most f zero b g h = zero-le
-total_at_most f (suc n) b g h = rw (total-append f (tabulate n g) (g n ∷ [])) (omega (arith, h n (omega arith), total_at_most f n b g (λ k l. h k (omega arith))))
+total_at_most f (suc n) b g h = rw (sum_by-append f (tabulate n g) (g n ∷ [])) (omega (arith, h n (omega arith), total_at_most f n b g (λ k l. h k (omega arith))))
 
 filled-between : (v : View) (p q fill : Option (ℕ × ℕ)) → Inside v p → Inside v q → Inside v fill → length (filled_between p q fill) ≤ side v * upright v
 unfolding line_dots
@@ -148,16 +133,13 @@ filled-between v (Some (x1, y1)) (Some (x2, y2)) (Some (column, fill_row)) i j f
     short : (k : ℕ) → k < dot_count e → column_count fill_row (dot_after (from_start e) k) ≤ upright v
     short k h =
         let w : Within e (dot_after (from_start e) k) = dot-within e k (less k (max (dx e) (dy e)) h) in
-        more _ (v.height - 1) (apart-le (dot_after (from_start e) k).row fill_row (v.height - 1) (le_trans w.below (larger y1 y2 (v.height - 1) i.1 j.1)) f.1)
+        more _ (v.height - 1) (apart-le (dot_after (from_start e) k).row fill_row (v.height - 1) (le_trans w.below (max-le i.1 j.1)) f.1)
       where
         less : (a b : ℕ) → a < b + 1 → a ≤ b
         less a b l = omega arith
 
         more : (a b : ℕ) → a ≤ b → a + 1 ≤ b + 1
         more a b l = omega arith
-
-        larger : (a b n : ℕ) → a ≤ n → b ≤ n → max a b ≤ n
-        larger a b n l m = omega arith
 
 filled-side : (v : View) (s : Segment) (fill_to : Float) → length (filled_points v s fill_to) ≤ side v * upright v
 unfolding filled_points
@@ -168,21 +150,6 @@ filled-side v s fill_to = go (clip_of v.bounds s).line
         let y = clamp_of fill_to v.bounds.bottom v.bounds.top in
         filled-between v (point_of v t.x1 t.y1) (point_of v t.x2 t.y2) (point_of v t.x1 y) (found_inside v t.x1 t.y1) (found_inside v t.x2 t.y2) (found_inside v t.x1 y)
     go None = zero-le
-
-side-larger : (v : View) → 0 < v.width → 0 < v.height → side v ≡ max v.width v.height
-side-larger v w h = larger v.width v.height w h
-  where
-    larger : (a b : ℕ) → 0 < a → 0 < b → max (a - 1) (b - 1) + 1 ≡ max a b
-    larger a b p q = omega arith
-
-pub line-count : (v : View) (s : Segment) → 0 < v.width → 0 < v.height → length (line_points v s) ≤ max v.width v.height
-line-count v s w h = rw (sym (side-larger v w h)) (line-side v s)
-
-pub filled-count : (v : View) (s : Segment) (fill_to : Float) → 0 < v.width → 0 < v.height → length (filled_points v s fill_to) ≤ max v.width v.height * v.height
-filled-count v s fill_to w h = le_trans (filled-side v s fill_to) (mul-le-mul (le_of_eq (side-larger v w h)) (lower v.height h))
-  where
-    lower : (n : ℕ) → 0 < n → n - 1 + 1 ≤ n
-    lower n g = omega arith
 
 -- ---- the other shapes
 
@@ -198,20 +165,13 @@ rectangle-side v x y width height =
     four : (a b c d n : ℕ) → a ≤ n → b ≤ n → c ≤ n → d ≤ n → a + b + c + d ≤ 4 * n
     four a b c d n p q r s = omega arith
 
-pub rectangle-count : (v : View) (x y width height : Float) → 0 < v.width → 0 < v.height → length (rectangle_points v x y width height) ≤ 4 * max v.width v.height
-rectangle-count v x y width height w h = rw (sym (side-larger v w h)) (rectangle-side v x y width height)
-
-one-dot : (p : Option (ℕ × ℕ)) → length (point_dots p) ≤ 1
-one-dot None = omega arith
-one-dot (Some (c, r)) = omega arith
-
 pub circle-count : (v : View) (x y radius : Float) → length (circle_points v x y radius) ≤ 360
 unfolding circle_points
 circle-count v x y radius = go 360
   where
     go : (n : ℕ) → length (angles v x y radius n) ≤ n
     go zero = zero-le
-    go (suc n) = rw (length-append (angles v x y radius n) (point_dots (angle_point v x y radius n))) (omega (arith, go n, one-dot (angle_point v x y radius n)))
+    go (suc n) = rw (length-append (angles v x y radius n) (point_dots (angle_point v x y radius n))) (omega (arith, go n, point-le (angle_point v x y radius n) _ refl))
 
 pub pairs-count : (v : View) (pairs : List Pair) → length (pair_dots v pairs) ≤ length pairs
 unfolding pair_dots
@@ -221,7 +181,7 @@ pairs-count v pairs = go pairs
     go [] = zero-le
     go (p ∷ ps) =
         rw (length-append (point_dots (point_of v p.x p.y)) (flat (λ p. point_dots (point_of v p.x p.y)) ps))
-        (omega (arith, go ps, one-dot (point_of v p.x p.y)))
+        (omega (arith, go ps, point-le (point_of v p.x p.y) _ refl))
 
 -- ---- on a canvas
 

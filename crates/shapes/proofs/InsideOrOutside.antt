@@ -3,11 +3,12 @@ use mathlib.Core.Path.{◌≡◌, refl, sym, ◌∙◌}
 use mathlib.Core.Bool.{Bool, true, false, ◌||◌}
 use lib.Ieee.{Float, nan, inf, fin, lt}
 use Rattle.std.specs.Prelude.{None}
+use Rattle.std.proofs.lemmas.Bool.{or_parts}
 use Rattle.floats.specs.Arithmetic.{◌⊗◌}
 use Rattle.floats.specs.Rounding.{Finite}
 use Rattle.floats.specs.Domain.{in_domain}
 use Rattle.floats.specs.Polyfills.{mul_add_of}
-use Rattle.floats.proofs.Cases.{true-not-false, false-not-true, or-false-left, or-false-right}
+use Rattle.floats.proofs.Cases.{true-not-false, false-not-true}
 use Rattle.floats.proofs.Numbers.{IsNumber, domain-finite, domain-number, add-number, mul-number, not-above-le}
 use Rattle.angles.proofs.AngleSizes.{at_most_one}
 use Rattle.walk.specs.declared.clip.Bounds.{Bounds}
@@ -35,13 +36,13 @@ not-outside-inside b x y n X Y h =
     let right = lt b.right x in
     let bottom = lt y b.bottom in
     let top = lt b.top y in
-    let three = or-false-left ((left || right) || bottom) top h in
-    let two = or-false-left (left || right) bottom three in
+    let three = (or_parts ((left || right) || bottom) top h).0 in
+    let two = (or_parts (left || right) bottom three).0 in
     rw (
-      not-above-le b.left x n.0.0 X (or-false-left left right two),
-      not-above-le x b.right X n.0.1 (or-false-right left right two),
-      not-above-le y b.top Y n.1.1 (or-false-right ((left || right) || bottom) top h),
-      not-above-le b.bottom y n.1.0 Y (or-false-right (left || right) bottom three),
+      not-above-le b.left x n.0.0 X (or_parts left right two).0,
+      not-above-le x b.right X n.0.1 (or_parts left right two).1,
+      not-above-le y b.top Y n.1.1 (or_parts ((left || right) || bottom) top h).1,
+      not-above-le b.bottom y n.1.0 Y (or_parts (left || right) bottom three).1,
     )
 
 -- ---- a regular view

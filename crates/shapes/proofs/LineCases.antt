@@ -1,6 +1,6 @@
 -- The ends of what is left of a line, the dots of a line and a filled line by them, and that a line has at most 65536 dots.
 use Prim.Native.Nat.{ℕ, ◌+◌, ◌^◌, ◌≤◌, ◌<◌, max}
-use mathlib.Core.Path.{◌≡◌, refl, sym, ◌∙◌}
+use mathlib.Core.Path.{◌≡◌, refl, sym, ap, ◌∙◌}
 use mathlib.Core.Bool.{false}
 use mathlib.Core.List.{List, [], ◌++◌}
 use native.Mathlib.Omega.{arith}
@@ -10,6 +10,7 @@ use Rattle.std.specs.Prelude.{Option, Some, None}
 use Rattle.floats.specs.Arithmetic.{◌⊕◌}
 use Rattle.floats.specs.Methods.{clamp_of}
 use Rattle.walk.specs.declared.clip.Segment.{Segment}
+use Rattle.walk.specs.declared.clip.Clipped.{Clipped}
 use Rattle.walk.specs.declared.bresenham.Ends.{Ends}
 use Rattle.walk.specs.declared.bresenham.Dot.{Dot}
 use Rattle.walk.specs.Clip.{clip_of}
@@ -36,14 +37,19 @@ unfolding frame_of
 found_inside v frame x y inside e s g = found-is v frame x y e (s (rw e inside)) g
 
 -- ---- the ends of what is left of a line are not outside
-module _ (v : View) (s : Segment) {t : Segment} (clipped : (clip_of v.bounds s).line ≡ Some t) {frame : Frame} (e : frame ≡ frame_of v) {r found : Option (ℕ × ℕ)} where
-  pub found_first : (outside_bounds frame.view.bounds t.x1 t.y1 ≡ false → r ≡ spot_of frame t.x1 t.y1) → r ≡ found → point_of v t.x1 t.y1 ≡ found
+module _ (v : View) (s : Segment) {kept : Clipped} {t : Segment} (c : kept ≡ clip_of v.bounds s) (some : kept.line ≡ Some t) where
+  accepted : (outside_bounds v.bounds t.x1 t.y1 ≡ false) × (outside_bounds v.bounds t.x2 t.y2 ≡ false)
   unfolding outside_bounds
-  found_first = found_inside v frame t.x1 t.y1 (any-side v.bounds t.x1 t.y1 ∙ (accepted-ends v.bounds s clipped).0) e
+  accepted =
+      let k = accepted-ends v.bounds s (rw c at some) in
+      (any-side v.bounds t.x1 t.y1 ∙ k.0, any-side v.bounds t.x2 t.y2 ∙ k.1)
 
-  pub found-second : (outside_bounds frame.view.bounds t.x2 t.y2 ≡ false → r ≡ spot_of frame t.x2 t.y2) → r ≡ found → point_of v t.x2 t.y2 ≡ found
-  unfolding outside_bounds
-  found-second = found_inside v frame t.x2 t.y2 (any-side v.bounds t.x2 t.y2 ∙ (accepted-ends v.bounds s clipped).1) e
+  module _ {frame : Frame} (e : frame ≡ frame_of v) {r found : Option (ℕ × ℕ)} where
+    pub found_first : (outside_bounds frame.view.bounds t.x1 t.y1 ≡ false → r ≡ spot_of frame t.x1 t.y1) → r ≡ found → point_of v t.x1 t.y1 ≡ found
+    found_first = found_inside v frame t.x1 t.y1 accepted.0 e
+
+    pub found-second : (outside_bounds frame.view.bounds t.x2 t.y2 ≡ false → r ≡ spot_of frame t.x2 t.y2) → r ≡ found → point_of v t.x2 t.y2 ≡ found
+    found-second = found_inside v frame t.x2 t.y2 accepted.1 e
 
 -- ---- a line's dots, and a filled line's, by the ends
 abbrev pub dots_of : Option (Float × Ends) → List Dot
@@ -57,9 +63,9 @@ filled_of row (Some (x, e)) = filled_dots e (row x)
 abbrev pub fill_row : View → Float → Float → Option (ℕ × ℕ)
 fill_row v fill x = point_of v x (clamp_of fill v.bounds.bottom v.bounds.top)
 
-pub line-by-ends : (v : View) (s : Segment) → line_points v s ≡ dots_of (line_ends v s)
+pub line-by-ends : (v : View) (s : Segment) {r found : Option (Float × Ends)} → r ≡ line_ends v s → r ≡ found → line_points v s ≡ dots_of found
 unfolding line_points line_ends
-line-by-ends v s = go (clip_of v.bounds s).line
+line-by-ends v s e g = go (clip_of v.bounds s).line ∙ ap dots_of (sym e ∙ g)
   where
     between : (x : Float) (p q : Option (ℕ × ℕ)) → dots_between p q ≡ dots_of (ends_between x p q)
     between x None q = refl
@@ -70,9 +76,10 @@ line-by-ends v s = go (clip_of v.bounds s).line
     go None = refl
     go (Some t) = between t.x1 (point_of v t.x1 t.y1) (point_of v t.x2 t.y2)
 
-pub filled-by-ends : (v : View) (s : Segment) (fill : Float) → filled_points v s fill ≡ filled_of (fill_row v fill) (line_ends v s)
+pub filled-by-ends : (v : View) (s : Segment) (fill : Float) {r found : Option (Float × Ends)} → r ≡ line_ends v s → r ≡ found
+    → filled_points v s fill ≡ filled_of (fill_row v fill) found
 unfolding filled_points line_ends
-filled-by-ends v s fill = go (clip_of v.bounds s).line
+filled-by-ends v s fill e g = go (clip_of v.bounds s).line ∙ ap (filled_of (fill_row v fill)) (sym e ∙ g)
   where
     between : (x : Float) (p q : Option (ℕ × ℕ)) → filled_between p q (fill_row v fill x) ≡ filled_of (fill_row v fill) (ends_between x p q)
     between x None q = refl
@@ -82,6 +89,9 @@ filled-by-ends v s fill = go (clip_of v.bounds s).line
     go : (k : Option Segment) → clipped_fill v fill k ≡ filled_of (fill_row v fill) (clipped_ends v k)
     go None = refl
     go (Some t) = between t.x1 (point_of v t.x1 t.y1) (point_of v t.x2 t.y2)
+
+-- for the functions that paint what was found
+pub ruleset by_found = (found-is, line-by-ends, filled-by-ends)
 
 -- ---- how many dots a line has, in a view of 16-bit sizes
 between_le : (p q : Option (ℕ × ℕ)) → Fits p → Fits q → length (dots_between p q) ≤ 65536
@@ -103,6 +113,9 @@ module _ (v : View) (wide : v.width < 2 ^ 16) (high : v.height < 2 ^ 16) where
       go : (k : Option Segment) → length (clipped_line v k) ≤ 65536
       go (Some t) = between_le (point_of v t.x1 t.y1) (point_of v t.x2 t.y2) (point-fits v wide high t.x1 t.y1) (point-fits v wide high t.x2 t.y2)
       go None = omega arith
+
+-- for the sum of four lines
+pub ruleset few_dots = (line-le)
 
 -- ---- four lines one after the other
 module _ (p : Painter) (x y width height : Float) (before one two three after : List ℕ) (a b c d : ℕ) where

@@ -19,7 +19,7 @@ use Rattle.lines.specs.declared.painter.Painter.{Painter}
 use Rattle.lines.proofs.PaintedDots.{painted-then, flat_append}
 use Rattle.lines.specs.Painted.{Painted}
 use Rattle.shapes.specs.Shapes.{point_dots, angle_point, angles, circle_points, pair_dots}
-use Rattle.shapes.specs.declared.painters.Pair.{Pair}
+use Rattle.walk.specs.declared.clip.Pair.{Pair}
 
 -- ---- points
 pub point-le : (f : Option (ℕ × ℕ)) (n : ℕ) → n ≡ length (point_dots f) → n ≤ 1
@@ -45,6 +45,9 @@ table-sin k t d radius y v a l e = rw (a, angle-sin k d l) at e
 pub circle-over : (v : View) (x y radius : Float) (k : ℕ) → k ≡ 360 → angles v x y radius k ≡ circle_points v x y radius
 unfolding circle_points
 circle-over v x y radius k e = ap (angles v x y radius) e
+
+-- for the loops that end at the 360th angle
+pub ruleset whole_circle = (circle-over)
 
 pub pair-next : (p : Painter) (pairs : List Pair) (d : Pair) (before between after : List ℕ) (k m n : ℕ) → k < length pairs
     → Painted p before (pair_dots p.view (take k pairs)) m between

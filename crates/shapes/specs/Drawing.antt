@@ -18,7 +18,7 @@ shape_dots v (Circle x y radius) = circle_points v x y radius
 
 -- a Braille grid with a view on which no clamp acts
 abbrev pub RegularBraille : Painter → Type 0
-RegularBraille p = (p.marker ≡ Braille) × (regular_view p.view ≡ true)
+RegularBraille p = (p.grid.marker ≡ Braille) × (regular_view p.view ≡ true)
 
 -- a circle's centre and radius in the domain: its points are then no NaN, so that each is inside the bounds or outside them
 abbrev pub CircleInDomain : Float → Float → Float → Type 0

@@ -10,7 +10,7 @@ use Rattle.walk.specs.Clip.{clip_of}
 use Rattle.walk.specs.Line.{line_dots}
 use Rattle.view.specs.Point.{whole, point_of}
 use Rattle.lines.specs.Painted.{flat, dot_at, column_to}
-use Rattle.shapes.specs.declared.painters.Pair.{Pair}
+use Rattle.walk.specs.declared.clip.Pair.{Pair}
 use Rattle.view.specs.declared.point.View.{View}
 
 -- a point is one dot, or none

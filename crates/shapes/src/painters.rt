@@ -14,7 +14,7 @@ use floats::domain::in_domain;
 use floats::methods::{clamp, to_radians};
 use floats::polyfills::{cos, mul_add, sin};
 use grids::markers::Marker;
-use grids::painting::{cells_held, paint_braille};
+use grids::painting::paint_braille;
 use lines::fills::paint_fill;
 use lines::painter::{Painter, paint_dot};
 use lines::walks::paint_walk;
@@ -32,13 +32,6 @@ pub enum Shape {
     Circle(f64, f64, f64),
 }
 
-// A coordinate pair of a Points.
-#[derive(Clone, Copy)]
-pub struct Pair {
-    pub x: f64,
-    pub y: f64,
-}
-
 // A dot, or none.
 pub fn paint_found(cells: &mut [u32], p: Painter, found: Option<(u16, u16)>) -> u64
     ensures { Painted p cells.old (point_dots found) result cells.new }
@@ -51,6 +44,7 @@ pub fn paint_found(cells: &mut [u32], p: Painter, found: Option<(u16, u16)>) -> 
 }
 
 // The dot of a point, or none.
+#[tactic(auto, using(crate::proofs::LineCases::by_found))]
 pub fn paint_point(cells: &mut [u32], p: Painter, x: f64, y: f64) -> u64
     ensures { Painted p cells.old (point_dots (point_of p.view x y)) result cells.new }
 {
@@ -61,6 +55,7 @@ pub fn paint_point(cells: &mut [u32], p: Painter, x: f64, y: f64) -> u64
 
 // What is left of a line after the clipping: its first end's x, and the dots of its ends. None where
 // nothing is left, or an end has no dot. By `let .. else` and not `?`, the form that document 01 names.
+#[inline(always)]
 fn line_ends(v: View, s: Segment) -> Option<(f64, Ends)>
     ensures { result ≡ line_ends v s }
 {
@@ -81,6 +76,8 @@ fn line_ends(v: View, s: Segment) -> Option<(f64, Ends)>
 }
 
 // A line: clipped, and walked between the dots of its ends.
+#[inline(always)]
+#[tactic(auto, using(crate::proofs::LineCases::by_found))]
 pub fn paint_line(cells: &mut [u32], p: Painter, s: Segment) -> u64
     ensures { Painted p cells.old (line_points p.view s) result cells.new }
 {
@@ -92,6 +89,7 @@ pub fn paint_line(cells: &mut [u32], p: Painter, s: Segment) -> u64
 }
 
 // A filled line: its walk, filled to the dot row of `fill_to_y` clamped to the bounds.
+#[tactic(auto, using(crate::proofs::LineCases::by_found))]
 pub fn paint_filled_line(cells: &mut [u32], p: Painter, s: Segment, fill_to_y: f64) -> u64
     ensures { Painted p cells.old (filled_points p.view s fill_to_y) result cells.new }
 {
@@ -116,6 +114,7 @@ fn segment(x1: f64, y1: f64, x2: f64, y2: f64) -> Segment
 }
 
 // A rectangle: four lines, in the order of the Rust.
+#[tactic(auto, using(crate::proofs::LineCases::few_dots))]
 pub fn paint_rectangle(
     cells: &mut [u32],
     p: Painter,
@@ -135,86 +134,105 @@ pub fn paint_rectangle(
     a + b + c + d
 }
 
-// Whether every point of a circle is inside the bounds: its outermost ones are, and no cosine or sine is
-// above 1 in size.
-fn is_circle_inside(b: Bounds, x: f64, y: f64, radius: f64) -> bool
-    requires { CircleInDomain x y radius }
-    ensures { result ≡ true → (angle : ℕ) → angle < 360 → inside_bounds b (mul_add_of radius (cos_at angle) x) (mul_add_of radius (sin_at angle) y) ≡ true }
-{
-    let left = mul_add(radius, -1.0, x);
-    let right = mul_add(radius, 1.0, x);
-    let bottom = mul_add(radius, -1.0, y);
-    let top = mul_add(radius, 1.0, y);
-    (radius > 0.0)
-        & ((left >= b.left) & (right <= b.right))
-        & ((bottom >= b.bottom) & (top <= b.top))
-}
-
-// A circle on a Braille grid: 360 points, of which each is tested, or none where all are inside. By a
-// turn's number, since the table is one row, each turn's cosine and then its sine.
-fn circle_braille<const TESTED: bool>(
-    cells: &mut [u32],
-    p: Painter,
+// A circle by its centre and radius, with the points at 360 angles.
+#[derive(Clone, Copy)]
+struct Circle {
     x: f64,
     y: f64,
     radius: f64,
-) -> u64
-    requires known { RegularBraille p × CircleInDomain x y radius }
-    requires inside { TESTED ≡ false → (angle : ℕ) → angle < 360 → inside_bounds p.view.bounds (mul_add_of radius (cos_at angle) x) (mul_add_of radius (sin_at angle) y) ≡ true }
-    ensures { Painted p cells.old (circle_points p.view x y radius) result cells.new }
-{
-    let table = angle_table();
-    let frame = frame_of(p.view);
-    let end = cells_held(cells, p.columns, p.rows);
-    let b = p.view.bounds;
-    let mut painted = 0;
-    for turn in 0..360 {
-        let turn_x = mul_add(radius, table[turn * 2], x);
-        let turn_y = mul_add(radius, table[turn * 2 + 1], y);
-        if !TESTED || is_inside(b, turn_x, turn_y) {
-            let d = dot_inside(frame, turn_x, turn_y);
-            paint_braille(cells, p.columns, end, d.column, d.row, p.word);
-            painted += 1;
+}
+
+impl Circle {
+    fn is_in_domain(self) -> bool
+        ensures { result ≡ true → CircleInDomain self.x self.y self.radius }
+    {
+        in_domain(self.x) & in_domain(self.y) & in_domain(self.radius)
+    }
+
+    // Whether every point is inside the bounds: the outermost ones are, and no cosine or sine is above 1 in
+    // size.
+    #[tactic(auto, using(crate::proofs::CircleInside::points_inside))]
+    fn is_inside(self, b: Bounds) -> bool
+        requires { CircleInDomain self.x self.y self.radius }
+        ensures { result ≡ true → (angle : ℕ) → angle < 360 → inside_bounds b (mul_add_of self.radius (cos_at angle) self.x) (mul_add_of self.radius (sin_at angle) self.y) ≡ true }
+    {
+        let left = mul_add(self.radius, -1.0, self.x);
+        let right = mul_add(self.radius, 1.0, self.x);
+        let bottom = mul_add(self.radius, -1.0, self.y);
+        let top = mul_add(self.radius, 1.0, self.y);
+        (self.radius > 0.0)
+            & ((left >= b.left) & (right <= b.right))
+            & ((bottom >= b.bottom) & (top <= b.top))
+    }
+
+    // On a Braille grid each point is tested, or none where all are inside. By a turn's number, since the table
+    // is one row, each turn's cosine and then its sine.
+    #[tactic(auto, using(crate::proofs::PaintLists::whole_circle))]
+    fn paint_braille<const TESTED: bool>(self, cells: &mut [u32], p: Painter) -> u64
+        requires known { RegularBraille p × CircleInDomain self.x self.y self.radius }
+        requires inside { TESTED ≡ false → (angle : ℕ) → angle < 360 → inside_bounds p.view.bounds (mul_add_of self.radius (cos_at angle) self.x) (mul_add_of self.radius (sin_at angle) self.y) ≡ true }
+        ensures { Painted p cells.old (circle_points p.view self.x self.y self.radius) result cells.new }
+    {
+        let table = angle_table();
+        let frame = frame_of(p.view);
+        let end = p.grid.cells_held(cells);
+        let b = p.view.bounds;
+        let mut painted = 0;
+        for turn in 0..360 {
+            let x = mul_add(self.radius, table[turn * 2], self.x);
+            let y = mul_add(self.radius, table[turn * 2 + 1], self.y);
+            if !TESTED || is_inside(b, x, y) {
+                let d = dot_inside(frame, x, y);
+                paint_braille(cells, p.grid.columns, end, d.column, d.row, p.word);
+                painted += 1;
+            }
         }
+        painted
     }
-    painted
+
+    // On any grid, as circle.rs has it: each angle's cosine and sine are computed, and each point is tested.
+    #[tactic(auto, using(crate::proofs::PaintLists::whole_circle))]
+    fn paint_any(self, cells: &mut [u32], p: Painter) -> u64
+        ensures { Painted p cells.old (circle_points p.view self.x self.y self.radius) result cells.new }
+    {
+        let frame = frame_of(p.view);
+        let mut painted = 0;
+        for degree in 0..360u16 {
+            let radians = to_radians(f64::from(degree));
+            let x = mul_add(self.radius, cos(radians), self.x);
+            let y = mul_add(self.radius, sin(radians), self.y);
+            let found = spot(frame, x, y);
+            painted += paint_found(cells, p, found);
+        }
+        painted
+    }
+
+    // On Braille the cosines and sines stand in a table, and what need not be tested for each point is tested
+    // here.
+    fn paint(self, cells: &mut [u32], p: Painter) -> u64
+        ensures { Painted p cells.old (circle_points p.view self.x self.y self.radius) result cells.new }
+    {
+        let known = self.is_in_domain();
+        let regular = is_regular(p.view);
+        if (p.grid.marker == Marker::Braille) & (known & regular) {
+            if self.is_inside(p.view.bounds) {
+                return self.paint_braille::<false>(cells, p);
+            }
+            return self.paint_braille::<true>(cells, p);
+        }
+        self.paint_any(cells, p)
+    }
 }
 
-// The same on any grid, as circle.rs has it: each angle's cosine and sine are computed, and each point
-// is tested.
-fn circle_any(cells: &mut [u32], p: Painter, x: f64, y: f64, radius: f64) -> u64
-    ensures { Painted p cells.old (circle_points p.view x y radius) result cells.new }
-{
-    let frame = frame_of(p.view);
-    let mut painted = 0;
-    for degree in 0..360u16 {
-        let radians = to_radians(f64::from(degree));
-        let point_x = mul_add(radius, cos(radians), x);
-        let point_y = mul_add(radius, sin(radians), y);
-        let found = spot(frame, point_x, point_y);
-        painted += paint_found(cells, p, found);
-    }
-    painted
-}
-
-// A circle: the points at 360 angles. On Braille their cosines and sines stand in a table, and what need
-// not be tested for each point is tested here.
+// A circle: the points at 360 angles.
 pub fn paint_circle(cells: &mut [u32], p: Painter, x: f64, y: f64, radius: f64) -> u64
     ensures { Painted p cells.old (circle_points p.view x y radius) result cells.new }
 {
-    let known = in_domain(x) & in_domain(y) & in_domain(radius);
-    let regular = is_regular(p.view);
-    if (p.marker == Marker::Braille) & (known & regular) {
-        let v = p.view;
-        if is_circle_inside(v.bounds, x, y, radius) {
-            return circle_braille::<false>(cells, p, x, y, radius);
-        }
-        return circle_braille::<true>(cells, p, x, y, radius);
-    }
-    circle_any(cells, p, x, y, radius)
+    Circle { x, y, radius }.paint(cells, p)
 }
 
 // A shape.
+#[inline(always)]
 #[tactic(auto, unfolding(crate::specs::Drawing::shape_dots))]
 pub fn paint_shape(cells: &mut [u32], p: Painter, shape: Shape) -> u64
     ensures { Painted p cells.old (shape_dots p.view shape) result cells.new }

@@ -12,10 +12,10 @@ fn main(rt: HostRuntime) {
         name: b"show",
     };
     let mut buffer = [0u8; FILE_ROOM];
-    let Ok(count) = program.read(&mut buffer) else {
+    let Ok(file) = program.read(&mut buffer) else {
         return;
     };
     let mut out = [0u8; 81920];
-    let length = print_show(&buffer[..count], &mut out);
+    let length = print_show(file, &mut out);
     let _ = program.print(&out[..length]);
 }

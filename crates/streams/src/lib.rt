@@ -2,7 +2,7 @@
 // line to standard error says so, and likewise of a write that fails.
 #![tactic(auto)]
 
-ghost use Rattle.std.specs.Prelude.{◌≡◌, ◌≤◌, length, take, IfOk};
+ghost use Rattle.std.specs.Prelude.{◌≡◌, ◌≤◌, length, IfOk};
 
 use std::io;
 use std::io::Read;
@@ -11,11 +11,9 @@ use std::io::Read;
 // whatever follows (report's `Enough`).
 pub const FILE_ROOM: usize = 65537;
 
-// To the end of the input or of the buffer, whichever comes first. Answers how many bytes of the input
-// stand at the start of the buffer.
-fn read_all(reader: &mut impl Read, buffer: &mut [u8]) -> io::Result<usize>
-    ensures in_buffer { IfOk result (λ count. count ≤ length buffer.new) }
-    ensures prefix { IfOk result (λ count. count ≡ length (take count buffer.new)) }
+// What is read, to the end of the input or of the buffer, whichever comes first.
+fn read_all<'b>(reader: &mut impl Read, buffer: &'b mut [u8]) -> io::Result<&'b [u8]>
+    ensures { IfOk result (λ read. length read.now ≤ length buffer.old) }
 {
     let mut count = 0;
     // No range or iterator serves: each read says how far the next one starts.
@@ -26,7 +24,7 @@ fn read_all(reader: &mut impl Read, buffer: &mut [u8]) -> io::Result<usize>
         }
         count += more;
     }
-    Ok(count)
+    Ok(&buffer[..count])
 }
 
 // A program: its runtime, and the name under which it says on standard error what it could not do.
@@ -51,10 +49,9 @@ impl<R: Eprint> Program<'_, R> {
 }
 
 impl<R: io::Input + Eprint> Program<'_, R> {
-    // Reads to the end of the input or of the buffer, whichever comes first.
-    pub fn read(&self, buffer: &mut [u8]) -> io::Result<usize>
-        ensures in_buffer { IfOk result (λ count. count ≤ length buffer.new) }
-        ensures prefix { IfOk result (λ count. count ≡ length (take count buffer.new)) }
+    // What is read into a buffer, to the end of the input or of the buffer, whichever comes first.
+    pub fn read<'b>(&self, buffer: &'b mut [u8]) -> io::Result<&'b [u8]>
+        ensures { IfOk result (λ read. length read.now ≤ length buffer.old) }
     {
         let input = read_all(&mut self.runtime.reader(), &mut *buffer);
         input.inspect_err(|_| self.say("the input could not be read"))

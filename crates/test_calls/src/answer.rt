@@ -1,5 +1,6 @@
 // What a step that is not refused answers, and how it is printed.
 use canvas::calls::Rendered;
+use form::fields::to_bits;
 use ledger::state::Canvas;
 use std::fmt;
 
@@ -37,20 +38,12 @@ impl fmt::Display for Answer {
     }
 }
 
-// A float's bits; of a NaN one pattern.
-fn bits_of(x: f64) -> u64 {
-    if x == x {
-        return f64::to_bits(x);
-    }
-    0x7FF8000000000000
-}
-
 // The fields in the order of step 30.
 fn write_canvas<W: fmt::Write>(f: &mut fmt::Formatter<W>, c: Canvas) -> fmt::Result {
     let b = c.bounds;
     write!(f, "canvas {} {}", c.columns, c.rows)?;
-    write!(f, " {:016X} {:016X}", bits_of(b.left), bits_of(b.right))?;
-    write!(f, " {:016X} {:016X}", bits_of(b.bottom), bits_of(b.top))?;
+    write!(f, " {:016X} {:016X}", to_bits(b.left), to_bits(b.right))?;
+    write!(f, " {:016X} {:016X}", to_bits(b.bottom), to_bits(b.top))?;
     write!(f, " {} {} {}", c.marker, c.character, c.background)?;
     write!(f, " {} {}", u8::from(c.dirty), u8::from(c.rendered))?;
     write!(f, " {} {} {}", c.labels, c.draws, c.painted)

@@ -1,4 +1,5 @@
 // The steps on the arrays and the canvas' fields: lengths, the scratch, the fields, the digests, the cells.
+// Counts go by `as`, here and in calls.rt, since std has no From of u32 for usize.
 ghost use Rattle.std.specs.Prelude.{◌<◌, ◌≤◌};
 
 use crate::answer::Answer;

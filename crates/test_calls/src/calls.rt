@@ -1,4 +1,5 @@
-// The steps that make a call, over the lent parts of the arrays.
+// The steps that make a call, over the lent parts of the arrays. A number of
+// a step becomes a length by `as`, since usize has no From of u32.
 use crate::answer::Answer;
 use crate::run::Run;
 use crate::step::Step;
@@ -7,22 +8,17 @@ use form::fields::FieldValue;
 use ledger::screen::Area;
 use pairs::points::points;
 use refusals::refusal::Refusal;
-use shapes::painters::{Pair, Shape};
+use shapes::painters::Shape;
+use walk::clip::Pair;
 
 impl Run {
     // 02: k = columns + 65,536 × rows; w0 to w3 the bounds; a marker, m character, n background.
     pub(crate) fn open(&mut self, step: &Step) -> Result<Answer, Refusal> {
-        let (columns, rows) = step.size();
         let lengths = self.lengths;
         let cells: &mut [u32] = &mut self.cells;
         self.canvas = zero_canvas();
         self.canvas = open(
-            columns,
-            rows,
-            step.bounds(),
-            step.a(),
-            step.m(),
-            step.n(),
+            step.opening(),
             &mut cells[..lengths.cells],
             &self.labels[..lengths.labels],
         )?;

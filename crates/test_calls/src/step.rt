@@ -1,6 +1,7 @@
 // A step's bytes, little-endian: op (place 0), a (1), b (2), n (4 to 7), m (8 to 11), k (12 to 15) and
 // six words, w0 to w5, of 8 bytes from 16 on.
 use form::fields::{FieldValue, has};
+use ledger::state::Opening;
 use shapes::painters::Shape;
 use walk::clip::{Bounds, Segment};
 
@@ -38,11 +39,6 @@ impl Step {
         u32::read(&self.bytes, 12)
     }
 
-    // The columns and the rows in k.
-    pub fn size(&self) -> (u16, u16) {
-        (u16::read(&self.bytes, 12), u16::read(&self.bytes, 14))
-    }
-
     // The word i by its low bytes, as many as the type has, or as a float.
     pub fn word<T: FieldValue>(&self, i: u8) -> T {
         T::read(&self.bytes, 16 + 8 * usize::from(i))
@@ -52,13 +48,20 @@ impl Step {
         self.word::<u8>(0) % 2 == 1
     }
 
-    // w0 to w3: left, right, bottom, top.
-    pub fn bounds(&self) -> Bounds {
-        Bounds {
-            left: self.word(0),
-            right: self.word(1),
-            bottom: self.word(2),
-            top: self.word(3),
+    // k: columns and rows; w0 to w3: left, right, bottom, top; a marker, m character, n background.
+    pub fn opening(&self) -> Opening {
+        Opening {
+            columns: u16::read(&self.bytes, 12),
+            rows: u16::read(&self.bytes, 14),
+            bounds: Bounds {
+                left: self.word(0),
+                right: self.word(1),
+                bottom: self.word(2),
+                top: self.word(3),
+            },
+            marker: self.a(),
+            character: self.m(),
+            background: self.n(),
         }
     }
 

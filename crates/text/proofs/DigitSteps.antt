@@ -1,8 +1,8 @@
 -- Digits put into a buffer from its end: those of the number that is left stand before them.
 use Prim.Native.Nat.{ℕ, zero, suc, ◌+◌, ◌-◌, ◌/◌, ◌%◌, ◌^◌, ◌≤◌, ◌<◌}
-use mathlib.Core.Path.{◌≡◌, refl}
+use mathlib.Core.Path.{◌≡◌}
 use mathlib.Core.Logic.{◌⊎◌, inl, inr}
-use mathlib.Core.Bool.{Bool, true, false, ◌&&◌}
+use mathlib.Core.Bool.{false}
 use mathlib.Core.List.{List, [], ◌∷◌, ◌++◌}
 use native.Mathlib.Nat.{pow-le-pow_left}
 use native.Mathlib.Omega.{arith}
@@ -11,6 +11,7 @@ use lib.Dec.{ltb}
 use lib.ListN.{length, set, take, drop, length-set, length-drop}
 use lib.Seq.{take_all}
 use borrow.Author.Tests.{lt-ltb, le-ltb, le-leb}
+use Rattle.std.proofs.Math.Bool.{and-false}
 use Rattle.std.proofs.lemmas.Bool.{lt-leb}
 use Rattle.std.proofs.lemmas.List.{drop-set, append_assoc}
 use Rattle.text.specs.Numbers.{digit_byte, digits}
@@ -22,11 +23,7 @@ all_below base n h i = omega (arith, pow-le-pow_left h 20)
 
 not_last : (base least n : ℕ) → (base ≤ n) ⊎ (1 < least) → is_last base least n ≡ false
 not_last base least n (inl h) = rw (le-ltb n base h)
-not_last base least n (inr h) = rw (lt-leb least 1 h) (go (ltb n base))
-  where
-    go : (t : Bool) → t && false ≡ false
-    go true = refl
-    go false = refl
+not_last base least n (inr h) = rw (lt-leb least 1 h) (and-false (ltb n base))
 
 module _ (base : ℕ) (large : 10 ≤ base) (least n : ℕ) where
   pub place_left : (first : ℕ) → least ≤ first + 1 → n < base ^ (first + 1) → (base ≤ n) ⊎ (1 < least) → 0 < first

@@ -9,6 +9,7 @@ use native.Mathlib.Omega.{arith}
 use lib.Dec.{ltb, leb}
 use lib.Utf8.{scalar, encode}
 use borrow.Author.Tests.{lt-ltb, le-leb, ltb-true, ltb-false, not-true}
+use Rattle.std.proofs.lemmas.Bool.{and_from}
 use Rattle.std.proofs.lemmas.Grind.{common_steps}
 use Rattle.std.specs.Char.{is_control as std_control}
 use Rattle.std.specs.Prelude.{Option, Some, None, SomeIff, MatchOption}
@@ -18,16 +19,13 @@ use Rattle.text.specs.Utf8.{is_scalar, is_control, shown_symbol, continuation, u
 
 -- ---- tests that hold together
 
-both : {a b : Bool} → a ≡ true → b ≡ true → a && b ≡ true
-both e f = rw (e, f)
-
 both-parts : (a b : Bool) → a && b ≡ true → (a ≡ true) × (b ≡ true)
 both-parts true true e = (refl, refl)
 both-parts true false e = (refl, e)
 both-parts false b e = let no : ◌≡◌ {A = ℕ} 0 1 = cc in absurd (omega arith)
 
 inside : (low high x : ℕ) → low ≤ x → x < high → within low high x ≡ true
-inside low high x l h = both (le-leb low x l) (lt-ltb x high h)
+inside low high x l h = and_from _ _ (le-leb low x l) (lt-ltb x high h)
 
 given : (right : Bool) (v s : ℕ) → right ≡ true → v ≡ s → given_that right v ≡ some s
 given right v s e f = rw (e, f)
@@ -53,8 +51,8 @@ module _ (s : ℕ) where
   decode-two l h =
       let e : two (0xC0 + s / 64) (continuation s) ≡ s = omega arith in
       given _ _ s
-      (both
-      (both (inside 0xC0 0xE0 (0xC0 + s / 64) (omega arith) (omega arith)) (inside 0x80 0xC0 (continuation s) (omega arith) (omega arith)))
+      (and_from _ _
+      (and_from _ _ (inside 0xC0 0xE0 (0xC0 + s / 64) (omega arith) (omega arith)) (inside 0x80 0xC0 (continuation s) (omega arith) (omega arith)))
       (le-leb 0x80 (two (0xC0 + s / 64) (continuation s)) (omega arith)))
       e
 
@@ -63,11 +61,11 @@ module _ (s : ℕ) where
   decode-three scalar l h =
       let e : three (0xE0 + s / 4096) (continuation (s / 64)) (continuation s) ≡ s = omega arith in
       given _ _ s
-      (both
-      (both
+      (and_from _ _
+      (and_from _ _
       (inside 0xE0 0xF0 (0xE0 + s / 4096) (omega arith) (omega arith))
-      (both (inside 0x80 0xC0 (continuation (s / 64)) (omega arith) (omega arith)) (inside 0x80 0xC0 (continuation s) (omega arith) (omega arith))))
-      (both (le-leb 0x800 (three (0xE0 + s / 4096) (continuation (s / 64)) (continuation s)) (omega arith)) (ap is_scalar e ∙ scalar)))
+      (and_from _ _ (inside 0x80 0xC0 (continuation (s / 64)) (omega arith) (omega arith)) (inside 0x80 0xC0 (continuation s) (omega arith) (omega arith))))
+      (and_from _ _ (le-leb 0x800 (three (0xE0 + s / 4096) (continuation (s / 64)) (continuation s)) (omega arith)) (ap is_scalar e ∙ scalar)))
       e
 
   decode-four : is_scalar s ≡ true → 0x10000 ≤ s → decode ((0xF0 + s / 262144) ∷ continuation (s / 4096) ∷ continuation (s / 64) ∷ continuation s ∷ []) ≡ some s
@@ -77,13 +75,13 @@ module _ (s : ℕ) where
       let e : four (0xF0 + s / 262144) (continuation (s / 4096)) (continuation (s / 64)) (continuation s) ≡ s =
       omega (arith, div-div-eq-div-mul s 64 64, div-div-eq-div-mul s 4096 64) in
       given _ _ s
-      (both
-      (both
+      (and_from _ _
+      (and_from _ _
       (inside 0xF0 0xF8 (0xF0 + s / 262144) (omega arith) (omega arith))
-      (both
+      (and_from _ _
       (inside 0x80 0xC0 (continuation (s / 4096)) (omega arith) (omega arith))
-      (both (inside 0x80 0xC0 (continuation (s / 64)) (omega arith) (omega arith)) (inside 0x80 0xC0 (continuation s) (omega arith) (omega arith)))))
-      (both (le-leb 0x10000 (four (0xF0 + s / 262144) (continuation (s / 4096)) (continuation (s / 64)) (continuation s)) (omega arith)) (ap is_scalar e ∙ scalar)))
+      (and_from _ _ (inside 0x80 0xC0 (continuation (s / 64)) (omega arith) (omega arith)) (inside 0x80 0xC0 (continuation s) (omega arith) (omega arith)))))
+      (and_from _ _ (le-leb 0x10000 (four (0xF0 + s / 262144) (continuation (s / 4096)) (continuation (s / 64)) (continuation s)) (omega arith)) (ap is_scalar e ∙ scalar)))
       e
 
 pub utf8-decodes : (s : ℕ) → is_scalar s ≡ true → decode (utf8 s) ≡ some s

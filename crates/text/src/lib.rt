@@ -6,7 +6,7 @@
 
 pub mod listing; // listing.rt: the listing and the refusal of document 01
 mod numbers; // numbers.rt: decimal and hexadecimal numbers
-mod screen; // screen.rt: the words of a screen
+pub mod screen; // screen.rt: a screen's size and words
 pub mod terminal; // terminal.rt: the screen with a terminal's colours
 mod utf8; // utf8.rt: a symbol in UTF-8
 mod writer; // writer.rt: bytes put one after the other

@@ -22,7 +22,8 @@ impl Writer<'_> {
         ensures { Wrote self.old (digits 19 BASE least n ++ (end ∷ [])) self.new }
     {
         // Into a buffer from its end, since a method that calls itself gets no proof where the struct has a lifetime;
-        // how many digits there are is known only once they are taken.
+        // how many digits there are is known only once they are taken. A digit goes by `as`, since a TryFrom would answer
+        // an error that never comes.
         let mut buffer = [end; 21];
         let mut first = 19;
         while n >= BASE || least > 1 {

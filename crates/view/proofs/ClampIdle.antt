@@ -12,13 +12,14 @@ use lib.Ieee.Fits.{up_pos}
 use lib.Ieee.Exact.{HasValue}
 use lib.Ieee.Back.{round_whole}
 use lib.Ieee.Positive.{first_pos}
+use Rattle.std.proofs.lemmas.Bool.{and_parts, or_parts}
 use Rattle.floats.specs.Arithmetic.{◌⊖◌, ◌⊗◌, ◌⊘◌, bits}
 use Rattle.floats.specs.Rounding.{IsUnits, Finite}
 use Rattle.floats.specs.Truncation.{as_signed, as_unsigned}
 use Rattle.floats.specs.Methods.{abs_of}
 use Rattle.floats.specs.Polyfills.{round_of, 1·0}
 use Rattle.floats.specs.Domain.{in_domain}
-use Rattle.floats.proofs.Cases.{true-not-false, false-not-true, or-false-left, or-false-right, and-true-left, and-true-right}
+use Rattle.floats.proofs.Cases.{true-not-false, false-not-true}
 use Rattle.floats.proofs.Monotone.{le-not-above}
 use Rattle.walk.specs.declared.clip.Bounds.{Bounds}
 use Rattle.view.specs.Limits.{max_columns, max_rows}
@@ -162,15 +163,14 @@ record Within (b : Bounds) (x y : Float) : Type 0 where
 within : (b : Bounds) (x y : Float) → outside_bounds b x y ≡ false → Within b x y
 unfolding outside_bounds
 within b x y h =
-    let sides = lt x b.left || lt b.right x in
-    let but-top = or-false-left (sides || lt y b.bottom) (lt b.top y) h in
-    let s = or-false-left sides (lt y b.bottom) but-top in
-    record {
-      left = or-false-left (lt x b.left) (lt b.right x) s;
-      right = or-false-right (lt x b.left) (lt b.right x) s;
-      bottom = or-false-right sides (lt y b.bottom) but-top;
-      top = or-false-right (sides || lt y b.bottom) (lt b.top y) h;
-    }
+    let t = or_parts _ _ h in
+    let u = or_parts _ _ t.0 in
+    let s = or_parts _ _ u.0 in
+    record { left = s.0; right = s.1; bottom = u.1; top = t.1 }
+
+wide_parts : (b : Bounds) → flat_bounds b ≡ false → (le (b.right ⊖ b.left) (bits 0) ≡ false) × (le (b.top ⊖ b.bottom) (bits 0) ≡ false)
+unfolding flat_bounds
+wide_parts b wide = or_parts _ _ wide
 
 -- ---- the clamp never acts
 same-min : (q k : ℕ) → q ≤ k → min q k ≡ q
@@ -182,16 +182,14 @@ clamp-idle distance width dots h = same-min (unclamped_of distance dots width) (
 
 module _ (b : Bounds) (x y : Float) (dots : ℕ) (d : InDomain b) (inside : outside_bounds b x y ≡ false) (wide : flat_bounds b ≡ false) (some : 1 ≤ dots) (few : dots ≤ 400) where
   pub column_fits : unclamped_of (x ⊖ b.left) dots (b.right ⊖ b.left) ≤ dots - 1
-  unfolding flat_bounds
   column_fits =
       let w = within b x y inside in
-      rising-fits b.left x b.right dots d.left d.right w.left w.right (or-false-left (le (b.right ⊖ b.left) (bits 0)) (le (b.top ⊖ b.bottom) (bits 0)) wide) some few
+      rising-fits b.left x b.right dots d.left d.right w.left w.right (wide_parts b wide).0 some few
 
   pub row_fits : unclamped_of (b.top ⊖ y) dots (b.top ⊖ b.bottom) ≤ dots - 1
-  unfolding flat_bounds
   row_fits =
       let w = within b x y inside in
-      falling-fits b.bottom y b.top dots d.bottom d.top w.bottom w.top (or-false-right (le (b.right ⊖ b.left) (bits 0)) (le (b.top ⊖ b.bottom) (bits 0)) wide) some few
+      falling-fits b.bottom y b.top dots d.bottom d.top w.bottom w.top (wide_parts b wide).1 some few
 
   pub clamp-idle-x : scaled_of (x ⊖ b.left) dots (b.right ⊖ b.left) ≡ unclamped_of (x ⊖ b.left) dots (b.right ⊖ b.left)
   clamp-idle-x = clamp-idle (x ⊖ b.left) (b.right ⊖ b.left) dots column_fits
@@ -217,8 +215,7 @@ point-unclamped v x y d w1 w2 h1 h2 = go (outside_bounds v.bounds x y || flat_bo
         ≡ cond t None (Some (unclamped_of (x ⊖ b.left) v.width (b.right ⊖ b.left), unclamped_of (b.top ⊖ y) v.height (b.top ⊖ b.bottom)))
     go true h = refl
     go false h =
-        let i = or-false-left (outside_bounds b x y) (flat_bounds b) h in
-        let w = or-false-right (outside_bounds b x y) (flat_bounds b) h in
+        let (i, w) = or_parts _ _ h in
         rw (clamp-idle-x b x y v.width d i w w1 w2, clamp-idle-y b x y v.height d i w h1 h2)
 
 -- ---- a label
@@ -297,24 +294,17 @@ pub record Inside (b : Bounds) (x y : Float) : Type 0 where
 pub inside : (b : Bounds) (x y : Float) → inside_bounds b x y ≡ true → Inside b x y
 unfolding inside_bounds
 inside b x y h =
-    let sides = le b.left x && le x b.right in
-    let but-bottom = and-true-left (sides && le y b.top) (le b.bottom y) h in
-    let s = and-true-left sides (le y b.top) but-bottom in
-    record {
-      left = and-true-left (le b.left x) (le x b.right) s;
-      right = and-true-right (le b.left x) (le x b.right) s;
-      bottom = and-true-right (sides && le y b.top) (le b.bottom y) h;
-      top = and-true-right sides (le y b.top) but-bottom;
-    }
+    let t = and_parts _ _ h in
+    let u = and_parts _ _ t.0 in
+    let s = and_parts _ _ u.0 in
+    record { left = s.0; right = s.1; bottom = t.1; top = u.1 }
 
 module _ (b : Bounds) (x y : Float) (dots : ℕ) (d : InDomain b) (i : Inside b x y) (wide : flat_bounds b ≡ false) (some : 1 ≤ dots) (few : dots ≤ 400) where
   pub column-from : FromMinusQuarter (quotient_of (x ⊖ b.left) dots (b.right ⊖ b.left))
-  unfolding flat_bounds
-  column-from = rising-from b.left x b.right dots d.left d.right i.left i.right some few (or-false-left (le (b.right ⊖ b.left) (bits 0)) (le (b.top ⊖ b.bottom) (bits 0)) wide)
+  column-from = rising-from b.left x b.right dots d.left d.right i.left i.right some few (wide_parts b wide).0
 
   pub row_from : FromMinusQuarter (quotient_of (b.top ⊖ y) dots (b.top ⊖ b.bottom))
-  unfolding flat_bounds
-  row_from = falling-from b.bottom y b.top dots d.bottom d.top i.bottom i.top some few (or-false-right (le (b.right ⊖ b.left) (bits 0)) (le (b.top ⊖ b.bottom) (bits 0)) wide)
+  row_from = falling-from b.bottom y b.top dots d.bottom d.top i.bottom i.top some few (wide_parts b wide).1
 
 abbrev InArea : ℕ → ℕ → Option (ℕ × ℕ) → Type 0
 InArea columns rows (Some (c, r)) = (c < columns) × (r < rows)

@@ -1,5 +1,5 @@
 -- Each way out of `scaled`, over plain values, the point's dot by its frame, and that the dots of a view of 16-bit sizes are of 16 bits.
-use Rattle.std.proofs.Common.{◌≡◌, ℕ, ◌-◌, ◌^◌, ◌<◌, ◌≤◌, min, Option, Some, None, true, false, ◌||◌, refl, arith}
+use Rattle.std.proofs.Common.{◌≡◌, ℕ, ◌-◌, ◌^◌, ◌<◌, Option, Some, None, true, false, ◌||◌, refl, arith}
 use lib.Ieee.{Float, lt, le, to_unsigned}
 use Rattle.floats.specs.Arithmetic.{◌⊕◌, ◌⊖◌, ◌⊗◌, ◌⊘◌}
 use Rattle.floats.specs.Polyfills.{0·5, 1·0}
@@ -16,25 +16,19 @@ module _ (distance steps : Float) (dots : ℕ) (width : Float) where
 
   pub scaled-low : le 1·0 half_added ≡ false → 0 ≡ scaled_by distance steps dots width
   unfolding scaled_by
-  scaled-low h = least _ (dots - 1) (half-low _ h)
-    where
-      least : (k n : ℕ) → k ≡ 0 → 0 ≡ min k n
-      least k n e = omega arith
+  scaled-low h = omega (arith, half-low _ h)
 
   module _ (small : dots < 2 ^ 16) (some : le 1·0 half_added ≡ true) where
-    pub scaled-below : lt half_added (whole dots) ≡ true → (to_unsigned 64 half_added ≡ scaled_by distance steps dots width) × (to_unsigned 64 half_added < 2 ^ 16)
+    pub scaled-below : lt half_added (whole dots) ≡ true → to_unsigned 64 half_added ≡ scaled_by distance steps dots width
     unfolding scaled_by
-    scaled-below h = let b = half-below _ dots small some h in cut _ _ _ (unsigned_is 64 half_added) b.0 b.1
-      where
-        cut : (r k u : ℕ) → r ≡ u → k ≡ u → u < dots → (r ≡ min k (dots - 1)) × (r < 2 ^ 16)
-        cut r k u e f l = (omega arith, omega arith)
+    scaled-below h = let b = half-below _ dots small some h in omega (arith, unsigned_is 64 half_added, b.0, b.1)
+
+    pub scaled-few : lt half_added (whole dots) ≡ true → to_unsigned 64 half_added < 2 ^ 16
+    scaled-few h = omega (arith, unsigned_is 64 half_added, (half-below _ dots small some h).1)
 
     pub scaled-top : lt half_added (whole dots) ≡ false → dots - 1 ≡ scaled_by distance steps dots width
     unfolding scaled_by
-    scaled-top h = most _ (half-from _ dots small some h)
-      where
-        most : (k : ℕ) → dots ≤ k → dots - 1 ≡ min k (dots - 1)
-        most k l = omega arith
+    scaled-top h = omega (arith, half-from _ dots small some h)
 
 -- ---- a point's dot by its frame
 pub spot-point : (v : View) (x y : Float) → spot_of (frame_of v) x y ≡ point_of v x y
@@ -56,3 +50,6 @@ module _ (v : View) (wide : v.width < 2 ^ 16) (high : v.height < 2 ^ 16) where
   point-fits x y =
       either Fits (outside_bounds v.bounds x y || flat_bounds v.bounds) tt
       (scaled_fits (x ⊖ v.bounds.left) v.width (v.bounds.right ⊖ v.bounds.left) wide, scaled_fits (v.bounds.top ⊖ y) v.height (v.bounds.top ⊖ v.bounds.bottom) high)
+
+-- for the three ways out of `scaled`
+pub ruleset scaling = (scaled-low, scaled-below, scaled-few, scaled-top)

@@ -1,13 +1,13 @@
 -- What the test of a view says of it, and that inside the bounds of such a view both sums with a half are numbers from 1/4 to 400: so `dot_inside` tests neither end, and finds no NaN.
-use Rattle.std.proofs.Common.{◌≡◌, ℕ, ◌-◌, ◌^◌, ◌<◌, ◌≤◌, Option, Some, Bool, true, false, not, ◌&&◌, T, leb, sym, ◌∙◌, subst, arith, leb-true}
-use lib.Ieee.{Float, is_nan, eq, lt, to_unsigned}
+use Rattle.std.proofs.Common.{◌≡◌, ℕ, ◌-◌, ◌^◌, ◌<◌, ◌≤◌, Option, Some, Bool, true, false, ◌&&◌, sym, ◌∙◌, subst, arith, leb-true}
+use lib.Ieee.{Float, eq, lt, to_unsigned}
 use borrow.Author.Tests.{not-true}
+use Rattle.std.proofs.lemmas.Bool.{and_parts}
 use Rattle.floats.specs.Arithmetic.{◌⊕◌, ◌⊖◌, ◌⊗◌, ◌⊘◌}
 use Rattle.floats.specs.Truncation.{as_unsigned}
 use Rattle.floats.specs.Polyfills.{round_of, 0·25, 0·5}
-use Rattle.floats.specs.Domain.{in_domain}
-use Rattle.floats.proofs.Cases.{and-true-left, and-true-right, true-not-false}
-use Rattle.floats.proofs.Numbers.{IsNumber, number-equal, equal_no_nan}
+use Rattle.floats.proofs.Cases.{true-not-false}
+use Rattle.floats.proofs.Numbers.{IsNumber, number-equal}
 use Rattle.floats.proofs.Monotone.{le-not-above}
 use Rattle.floats.proofs.WholePart.{rounded-sum}
 use Rattle.walk.specs.declared.clip.Bounds.{Bounds}
@@ -29,30 +29,21 @@ pub record Regular (v : View) : Type 0 where
 pub regular : (v : View) → regular_view v ≡ true → Regular v
 unfolding regular_view
 regular v h =
-    let b = v.bounds in
-    let across = in_domain b.left && in_domain b.right in
-    let down = in_domain b.bottom && in_domain b.top in
-    let columns = leb 1 v.width && leb v.width 400 in
-    let rows = leb 1 v.height && leb v.height 400 in
-    let d = and-true-left (across && down) (not (flat_bounds b) && (columns && rows)) h in
-    let s = and-true-right (across && down) (not (flat_bounds b) && (columns && rows)) h in
-    let a = and-true-left across down d in
-    let e = and-true-right across down d in
-    let n = and-true-right (not (flat_bounds b)) (columns && rows) s in
-    let c = and-true-left columns rows n in
-    let r = and-true-right columns rows n in
+    let (d, s) = and_parts _ _ h in
+    let (a, e) = and_parts _ _ d in
+    let (f, n) = and_parts _ _ s in
+    let (c, r) = and_parts _ _ n in
+    let x = and_parts _ _ a in
+    let y = and_parts _ _ e in
+    let columns = and_parts _ _ c in
+    let rows = and_parts _ _ r in
     record {
-      domain = record {
-        left = and-true-left (in_domain b.left) (in_domain b.right) a;
-        right = and-true-right (in_domain b.left) (in_domain b.right) a;
-        bottom = and-true-left (in_domain b.bottom) (in_domain b.top) e;
-        top = and-true-right (in_domain b.bottom) (in_domain b.top) e;
-      };
-      wide = not-true (flat_bounds b) (and-true-left (not (flat_bounds b)) (columns && rows) s);
-      some-columns = leb-true 1 v.width (and-true-left (leb 1 v.width) (leb v.width 400) c);
-      few-columns = leb-true v.width 400 (and-true-right (leb 1 v.width) (leb v.width 400) c);
-      some-rows = leb-true 1 v.height (and-true-left (leb 1 v.height) (leb v.height 400) r);
-      few-rows = leb-true v.height 400 (and-true-right (leb 1 v.height) (leb v.height 400) r);
+      domain = record { left = x.0; right = x.1; bottom = y.0; top = y.1 };
+      wide = not-true (flat_bounds v.bounds) f;
+      some-columns = leb-true 1 v.width columns.0;
+      few-columns = leb-true v.width 400 columns.1;
+      some-rows = leb-true 1 v.height rows.0;
+      few-rows = leb-true v.height 400 rows.1;
     }
 
 -- ---- the sums of a point inside a regular view
@@ -111,9 +102,6 @@ downwards f y = (f.view.bounds.top ⊖ y) ⊗ f.down ⊘ f.height ⊕ 0·5
 -- what `whole_inside` ensures
 abbrev Whole : ℕ → Float → Type 0
 Whole n x = lt x 0·25 ≡ false → to_unsigned 64 x < 65536 → n ≡ to_unsigned 64 x
-
-pub no_nan : (x y : Float) → eq x x && eq y y ≡ true → T (not (is_nan x)) × T (not (is_nan y))
-no_nan x y t = (equal_no_nan x (and-true-left (eq x x) (eq y y) t), equal_no_nan y (and-true-right (eq x x) (eq y y) t))
 
 module _ (f : Frame) (x y : Float) where
   pub dot-found : {column row : ℕ} → Whole column (across f x) → Whole row (downwards f y)

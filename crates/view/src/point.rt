@@ -10,9 +10,9 @@ use floats::casts::{as_u16, as_u64};
 use floats::domain::in_domain;
 use floats::methods::abs;
 use floats::polyfills::round;
-use grids::markers::{Marker, resolution};
+use grids::painting::Grid;
 use walk::bresenham::Dot;
-use walk::clip::Bounds;
+use walk::clip::{Bounds, is_outside};
 
 // Bounds with a grid's resolution in dots.
 #[derive(Clone, Copy)]
@@ -22,24 +22,16 @@ pub struct View {
     pub height: u16,
 }
 
-// The view of a canvas of at most 200 by 100 cells with this marker.
-pub fn view_of(bounds: Bounds, columns: u16, rows: u16, marker: Marker) -> View
-    ensures { columns ≤ max_columns → rows ≤ max_rows → result ≡ view_of bounds columns rows marker }
+// The view of a grid of at most 200 by 100 cells.
+pub fn view_of(bounds: Bounds, grid: Grid) -> View
+    ensures { grid.columns ≤ max_columns → grid.rows ≤ max_rows → result ≡ view_of bounds grid.columns grid.rows grid.marker }
 {
-    let dots = resolution(marker, columns, rows);
+    let dots = grid.resolution();
     View {
         bounds,
         width: u16::try_from(dots.columns).unwrap_or(u16::MAX),
         height: u16::try_from(dots.rows).unwrap_or(u16::MAX),
     }
-}
-
-// Apart from the same test of an end in walk, whose clause speaks of the sides by which a line is cut.
-#[tactic(auto, unfolding(crate::specs::Point::outside_bounds))]
-fn is_outside(b: Bounds, x: f64, y: f64) -> bool
-    ensures { result ≡ outside_bounds b x y }
-{
-    (x < b.left) | (x > b.right) | (y < b.bottom) | (y > b.top)
 }
 
 #[tactic(auto, unfolding(crate::specs::Point::flat_bounds))]
@@ -50,6 +42,7 @@ fn is_flat(b: Bounds) -> bool
 }
 
 // Whether the clamp to resolution - 1 never acts on a view, as `dot_inside` asks.
+#[tactic(auto, unfolding(crate::specs::Point::regular_view))]
 pub fn is_regular(v: View) -> bool
     ensures { result ≡ regular_view v }
 {
@@ -92,6 +85,7 @@ pub fn frame_of(v: View) -> Frame
 // The whole part of a float from 1 on that is below 2^53: its digits moved to the top with the leading
 // one put before them, which is two instructions less than a mask, shifted by its exponent. The kit's own
 // truncation also serves larger floats, which costs twice as much.
+#[tactic(auto, using(floats::proofs::WholePart::whole_parts))]
 fn whole_part(x: f64) -> u64
     requires low { T (le (fin false 1 (pos 0)) x) }
     requires high { T (lt x (fin false 1 (pos 53))) }
@@ -104,7 +98,9 @@ fn whole_part(x: f64) -> u64
 }
 
 // `(distance * steps / width).round()` as a number, at most dots - 1, by the sum with 0.5 alone: below
-// 0 `round` takes 0.5 away, but the number is 0 all the same, as it is below 1 and for a NaN.
+// 0 `round` takes 0.5 away, but the number is 0 all the same, as it is below 1 and for a NaN. By `as`, here and
+// below, what is known to be below 2^16: a try_from would be a test for each point.
+#[tactic(auto, using(floats::proofs::WholePart::below_two_to_53, crate::proofs::DotPlaces::scaling))]
 fn scaled(distance: f64, steps: f64, dots: u16, width: f64) -> u16
     ensures { result ≡ scaled_by distance steps dots width }
 {
@@ -135,7 +131,7 @@ pub fn spot_inside(f: Frame, x: f64, y: f64) -> Option<(u16, u16)>
 }
 
 // The dot of a point: none outside the bounds either.
-#[tactic(auto, unfolding(crate::specs::Point::spot_of))]
+#[tactic(auto, unfolding(crate::specs::Point::spot_of, crate::specs::Point::outside_bounds, walk::specs::Clip::sides_of, walk::specs::Clip::outside))]
 pub fn spot(f: Frame, x: f64, y: f64) -> Option<(u16, u16)>
     ensures { result ≡ spot_of f x y }
 {
@@ -157,7 +153,7 @@ fn rounded(distance: f64, dots: u16, width: f64) -> u16
 }
 
 // The dot of a point by itself: the formula of get_point as the Rust has it. Painters use a frame.
-#[tactic(auto, unfolding(crate::specs::Point::point_of))]
+#[tactic(auto, unfolding(crate::specs::Point::point_of, crate::specs::Point::outside_bounds, walk::specs::Clip::sides_of, walk::specs::Clip::outside))]
 pub fn point(v: View, x: f64, y: f64) -> Option<(u16, u16)>
     ensures { result ≡ point_of v x y }
 {

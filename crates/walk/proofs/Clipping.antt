@@ -1,6 +1,7 @@
 -- One law for each way out of clip_outside's loop, what document 01 promises of the number of cuts, and that an accepted line's ends have no side.
-use Rattle.std.proofs.Common.{◌≡◌, ℕ, zero, suc, ◌+◌, ◌≤◌, Bool, true, false, cond, not, ◌&&◌, ◌||◌, Option, Some, None, sym, refl, ap, ◌∙◌, arith}
+use Rattle.std.proofs.Common.{◌≡◌, ℕ, zero, suc, ◌+◌, ◌≤◌, Bool, true, false, cond, not, ◌||◌, Option, Some, None, sym, refl, ap, ◌∙◌, arith}
 use lib.Ieee.{Float, lt}
+use Rattle.std.proofs.lemmas.Bool.Decides.{nat_tests}
 use Rattle.std.proofs.lemmas.Option.{none-some}
 use Rattle.walk.specs.declared.clip.Bounds.{Bounds}
 use Rattle.walk.specs.declared.clip.Segment.{Segment}
@@ -41,8 +42,8 @@ module _ (left n : ℕ) (b : Bounds) (s : Segment) (first second : Sides) (e : f
       cut_again j next l m = rw (m, e, f) (sym (goes_on ∙ ap (λ (l : ℕ). otherwise l n b s) l))
 
 -- no cut left, and an end outside
-pub spent : (n : ℕ) (b : Bounds) (s : Segment) (p q : Bool) → p ≡ outside (first_sides b s) → q ≡ outside (second_sides b s) → p || q ≡ true → clip_from 0 n b s ≡ no_line n
-spent n b s p q g h some = clip-judged 0 n b s ∙ rw (← g, ← h, some) (go (common (first_sides b s) (second_sides b s)))
+pub spent : (left n : ℕ) (b : Bounds) (s : Segment) (p q : Bool) → left ≡ 0 → p ≡ outside (first_sides b s) → q ≡ outside (second_sides b s) → p || q ≡ true → clip_from left n b s ≡ no_line n
+spent left n b s p q e g h some = rw e (clip-judged 0 n b s ∙ rw (← g, ← h, some) (go (common (first_sides b s) (second_sides b s))))
   where
     go : (y : Bool) → cond y (no_line n) (no_line n) ≡ no_line n
     go true = refl
@@ -51,13 +52,7 @@ spent n b s p q g h some = clip-judged 0 n b s ∙ rw (← g, ← h, some) (go (
 -- whether a point has a side, with no need to know which
 pub any-side : (b : Bounds) (x y : Float) → lt x b.left || lt b.right x || lt y b.bottom || lt b.top y ≡ outside (sides_of b x y)
 unfolding sides_of outside
-any-side b x y = go (lt x b.left) (lt b.right x) (lt y b.bottom) (lt b.top y)
-  where
-    go : (l r d u : Bool) → l || r || d || u ≡ l || not l && r || d || not d && u
-    go true r d u = refl
-    go false true d u = refl
-    go false false true u = refl
-    go false false false u = refl
+any-side b x y = grind (arith, nat_tests)
 
 -- ---- 'at most 8' cuts
 judged-cuts : (P : ℕ → Type 0) (b : Bounds) (s : Segment) (n : ℕ) (else : Clipped) → P n → P else.cuts → P (judged b s n else).cuts
@@ -135,3 +130,6 @@ ends-from (suc left) n b s =
 
 pub accepted-ends : (b : Bounds) (s : Segment) {t : Segment} → (clip_of b s).line ≡ Some t → (outside (first_sides b t) ≡ false) × (outside (second_sides b t) ≡ false)
 accepted-ends b s e = rw e at (ends-from 8 0 b s)
+
+-- for `clip_line` and the ways out of `clip_outside`
+pub ruleset clipping = (inside-accepted, as_is, refused, spent)

@@ -1,6 +1,7 @@
 -- The course from `new` gives the dots of the closed formula: each direction is its start and k moves, modulo 2 ^ 64. One of the two goes a whole dot a move.
-use Rattle.std.proofs.Common.{◌≡◌, ℕ, zero, suc, ◌+◌, ◌-◌, ◌*◌, ◌/◌, ◌%◌, ◌^◌, ◌<◌, ◌≤◌, max, Bool, true, false, cond, ltb, sym, refl, ap, ◌∙◌, subst, arith, ltb-false, ltb-true, le-ltb}
+use Rattle.std.proofs.Common.{◌≡◌, ℕ, zero, suc, ◌+◌, ◌*◌, ◌/◌, ◌%◌, ◌^◌, ◌<◌, ◌≤◌, max, Bool, true, false, cond, sym, refl, ap, ◌∙◌, subst, arith, ltb-false, ltb-true, le-ltb}
 use native.Mathlib.Nat.{mod-add-mod}
+use Rattle.std.proofs.lemmas.Bool.Decides.{nat_tests}
 use Rattle.walk.specs.declared.bresenham.Ends.{Ends}
 use Rattle.walk.specs.declared.bresenham.Dot.{Dot}
 use Rattle.walk.specs.declared.course.Course.{Course}
@@ -27,19 +28,11 @@ after_is c f g (suc k) = ap next_course (after_is c f g k) ∙ rw (moved-next c.
 
 place-fits : (a b : ℕ) → a < 2 ^ 16 → place_of a b < 2 ^ 64
 unfolding place_of
-place-fits a b h = go (ltb b a)
-  where
-    go : (t : Bool) → a * 2 ^ 48 + cond t (2 ^ 47 + 2 ^ 30) (2 ^ 47 - 2 ^ 30) < 2 ^ 64
-    go true = omega arith
-    go false = omega arith
+place-fits a b h = grind (arith, nat_tests)
 
 place-whole : (a b : ℕ) → place_of a b / 2 ^ 48 ≡ a
 unfolding place_of
-place-whole a b = go (ltb b a)
-  where
-    go : (t : Bool) → (a * 2 ^ 48 + cond t (2 ^ 47 + 2 ^ 30) (2 ^ 47 - 2 ^ 30)) / 2 ^ 48 ≡ a
-    go true = omega arith
-    go false = omega arith
+place-whole a b = grind (arith, nat_tests)
 
 first-le : (a b : ℕ) → a ≤ max a b
 first-le a b = omega arith

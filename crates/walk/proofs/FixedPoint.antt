@@ -1,7 +1,8 @@
 -- Offsets by fixed point: a start just before the middle of a dot and k slopes lie in the dot of the closed formula.
 use Rattle.std.proofs.Common.{◌≡◌, ℕ, ◌+◌, ◌-◌, ◌*◌, ◌/◌, ◌%◌, ◌^◌, ◌<◌, ◌≤◌, Bool, true, false, cond, ltb, ◌⊎◌, sym, refl, inl, inr, mul-le-mul_right, mul-le-mul_left, zero-mul, mul-add, div-mul-le_self, arith, ltb-false, ltb-true, le-ltb}
 use native.Mathlib.Nat.{div-le_of_le-mul, lt-div-mul-add, div-eq_of_lt-le}
-use Rattle.floats.proofs.Cases.{lt-or-le}
+use Rattle.std.proofs.lemmas.Bool.Decides.{nat_tests}
+use Rattle.std.proofs.lemmas.Bool.{cases_lt}
 use Rattle.walk.specs.Line.{apart, offset_after, toward}
 use Rattle.walk.specs.Course.{slope_of, place_of, move_of}
 use Rattle.walk.proofs.Offset.{offset-start, offset-above, offset-below}
@@ -44,14 +45,7 @@ module _ (long short : ℕ) (low : short ≤ long) where
 
 pub slope-some : (long short : ℕ) → 0 < slope_of long short
 unfolding slope_of
-slope-some long short = go (ltb short long)
-  where
-    some : (q : ℕ) → 0 < q + 1
-    some q = omega arith
-
-    go : (t : Bool) → 0 < cond t (short * 2 ^ 48 / long + 1) (2 ^ 48)
-    go true = some (short * 2 ^ 48 / long)
-    go false = omega arith
+slope-some long short = grind (arith, nat_tests)
 
 -- ---- k slopes, from a start just before the middle
 module _ (long short k start : ℕ) (fits : long < 2 ^ 16) (low : short ≤ long) (on : k ≤ long) (least : 2 ^ 47 - 2 ^ 30 - 1 ≤ start) (most : start ≤ 2 ^ 47 - 2 ^ 16) where
@@ -69,16 +63,16 @@ module _ (long short k start : ℕ) (fits : long < 2 ^ 16) (low : short ≤ long
   Reaches o place = (o * 2 ^ 48 ≤ place) × (place < (o + 1) * 2 ^ 48)
 
   reaches : Reaches (offset_after long short k) (start + k * slope_of long short)
-  reaches = go (lt-or-le 0 long)
+  reaches = go (cases_lt 0 long)
     where
       above : 0 < long → offset_after long short k * 2 ^ 48 ≤ start + k * slope_of long short
-      above some = elim (lt-or-le (start + k * slope_of long short) (offset_after long short k * 2 ^ 48)) [
+      above some = elim (cases_lt (start + k * slope_of long short) (offset_after long short k * 2 ^ 48)) [
         | inl g ↦ absurd (too-low (offset_after long short k) (slope_of long short) (slope-above long short low) (offset-above long short some low k) some g)
         | inr g ↦ g
       ]
 
       below : 0 < long → start + k * slope_of long short < (offset_after long short k + 1) * 2 ^ 48
-      below some = elim (lt-or-le (start + k * slope_of long short) ((offset_after long short k + 1) * 2 ^ 48)) [
+      below some = elim (cases_lt (start + k * slope_of long short) ((offset_after long short k + 1) * 2 ^ 48)) [
         | inl g ↦ g
         | inr g ↦ absurd (too-high (offset_after long short k) (slope_of long short) (slope-below long short low) (offset-below long short some low k) some g)
       ]
@@ -156,3 +150,6 @@ move-one long a b fits low = go (ltb b a) refl
 pub one-move : (long a b : ℕ) → a ≤ b → apart a b ≡ long → move_of long a b ≡ 2 ^ 48
 unfolding move_of slope_of
 one-move long a b h e = rw (le-ltb b a h, e, le-ltb long long (omega arith))
+
+-- for `moves`: 2^64 less a slope is a number of 64 bits
+pub ruleset slopes = (slope-some)

@@ -2,7 +2,6 @@
 pub mod Clipping
 pub mod Decision
 pub mod Offset
-pub mod WalkMade
 pub mod Tabulated
 pub mod DotsAlong
 pub mod ClosedFormula

@@ -1,6 +1,7 @@
 -- Where the dots of a line lie: how many they are, the first and the last are its ends, and each lies between them.
-use Rattle.std.proofs.Common.{◌≡◌, ℕ, zero, suc, ◌+◌, ◌-◌, ◌<◌, ◌≤◌, min, max, Bool, true, false, cond, ltb, length, sym, refl, ◌∙◌, subst, add-zero, le_of_lt, mul-le-mul_right, arith, ltb-false, ltb-true}
+use Rattle.std.proofs.Common.{◌≡◌, ℕ, zero, suc, ◌+◌, ◌<◌, ◌≤◌, min, max, Bool, true, false, cond, length, sym, refl, ◌∙◌, subst, add-zero, le_of_lt, mul-le-mul_right, arith, ltb-false, ltb-true}
 use native.Mathlib.Nat.{min_comm, max_comm}
+use Rattle.std.proofs.lemmas.Bool.Decides.{nat_tests}
 use Rattle.walk.specs.declared.bresenham.Ends.{Ends}
 use Rattle.walk.specs.declared.bresenham.Dot.{Dot}
 use Rattle.walk.specs.Line.{apart, dx, dy, shallow, starts_second, exchanged, from_start, offset_after, toward, dot_after, dot_count, line_dots}
@@ -14,25 +15,13 @@ length-line e = length-tabulate (dot_count e) (dot_after (from_start e))
 
 -- ---- from a toward b
 toward-none : (a b : ℕ) → toward a b 0 ≡ a
-toward-none a b = go (ltb b a)
-  where
-    go : (t : Bool) → cond t (a - 0) (a + 0) ≡ a
-    go true = omega arith
-    go false = omega arith
+toward-none a b = grind (arith, nat_tests)
 
 toward-all : (a b : ℕ) → toward a b (apart a b) ≡ b
-toward-all a b = go (ltb b a) refl
-  where
-    go : (t : Bool) → ltb b a ≡ t → cond t (a - apart a b) (a + apart a b) ≡ b
-    go true t = omega (arith, ltb-true b a t)
-    go false t = omega (arith, ltb-false b a t)
+toward-all a b = grind (arith, nat_tests)
 
 toward-between : (a b o : ℕ) → o ≤ apart a b → (min a b ≤ toward a b o) × (toward a b o ≤ max a b)
-toward-between a b o h = go (ltb b a) refl
-  where
-    go : (t : Bool) → ltb b a ≡ t → (min a b ≤ cond t (a - o) (a + o)) × (cond t (a - o) (a + o) ≤ max a b)
-    go true t = let g = ltb-true b a t in (omega arith, omega arith)
-    go false t = let g = ltb-false b a t in (omega arith, omega arith)
+toward-between a b o h = (grind (arith, nat_tests), grind (arith, nat_tests))
 
 -- ---- the end where a line starts
 pub record Forward (e : Ends) : Type 0 where

@@ -1,7 +1,7 @@
 -- The closed formula's offset: its bounds, and how it moves in one step.
 use Rattle.std.proofs.Common.{◌≡◌, ℕ, zero, suc, ◌+◌, ◌-◌, ◌*◌, ◌<◌, ◌≤◌, sym, ◌∙◌, subst, inl, inr, zero-le, mul_assoc, mul_comm, add-mul, mul-le-mul_left, one-mul, zero-mul, mul-suc, div-mul-le_self, arith}
 use native.Mathlib.Nat.{div-eq_of_lt-le, lt-div-mul-add, div-eq_of_lt, div-zero}
-use Rattle.floats.proofs.Cases.{lt-or-le}
+use Rattle.std.proofs.lemmas.Bool.{cases_lt}
 use Rattle.walk.specs.Line.{offset_after}
 
 pub offset-start : (long short : ℕ) → offset_after long short 0 ≡ 0
@@ -57,7 +57,7 @@ offset-whole (suc l) k h = div-eq_of_lt-le (2 * suc l) (omega arith) (omega arit
 pub offset-le : (long short k n : ℕ) → short ≤ long → k * short ≤ long * n → offset_after long short k ≤ n
 unfolding offset_after
 offset-le zero short k n low h = rw (div-zero (2 * (k * short) + 0 - 1)) zero-le
-offset-le (suc l) short k n low h = elim (lt-or-le n (offset_after (suc l) short k)) [
+offset-le (suc l) short k n low h = elim (cases_lt n (offset_after (suc l) short k)) [
   | inl g ↦ absurd (clash (suc l * n) (suc l * offset_after (suc l) short k) (k * short) l h (offset-above (suc l) short (omega arith) low k)
       (subst (λ (x : ℕ). x ≤ suc l * offset_after (suc l) short k) (mul-suc (suc l) n) (mul-le-mul_left (suc l) g)))
   | inr g ↦ g

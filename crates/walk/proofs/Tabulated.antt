@@ -2,7 +2,7 @@
 use Rattle.std.proofs.Common.{◌≡◌, ℕ, zero, suc, ◌<◌, List, [], ◌∷◌, ◌++◌, length, get_or, sym, refl, ap, ◌∙◌, inl, inr, arith, length-append}
 use Rattle.std.proofs.Math.ListN.{get_or-append}
 use Rattle.std.proofs.Math.Seq.{get_or-append_seam}
-use Rattle.floats.proofs.Cases.{lt-or-le}
+use Rattle.std.proofs.lemmas.Bool.{cases_lt}
 use Rattle.walk.specs.Tabulate.{tabulate}
 
 pub length-tabulate : {A : Type 0} (n : ℕ) (f : ℕ → A) → length (tabulate n f) ≡ n
@@ -19,7 +19,7 @@ tabulate-first {A} (suc n) f = ap (λ (xs : List A). xs ++ (f (suc n) ∷ [])) (
 
 pub get_or-tabulate : {A : Type 0} (n k : ℕ) (f : ℕ → A) (d : A) → k < n → get_or (tabulate n f) k d ≡ f k
 get_or-tabulate zero k f d h = absurd (omega arith)
-get_or-tabulate (suc n) k f d h = elim (lt-or-le k n) [
+get_or-tabulate (suc n) k f d h = elim (cases_lt k n) [
   | inl l ↦
       let m : k < length (tabulate n f) = rw (length-tabulate n f) l in
       get_or-append (tabulate n f) (f n ∷ []) d k m ∙ get_or-tabulate n k f d l

@@ -5,7 +5,7 @@ use Rattle.floats.specs.Arithmetic.{◌⊕◌, ◌⊖◌, ◌⊗◌, ◌⊘◌}
 use Rattle.walk.specs.declared.clip.Bounds.{Bounds}
 use Rattle.walk.specs.declared.clip.Segment.{Segment}
 use Rattle.walk.specs.declared.clip.Sides.{Sides}
-use Rattle.walk.specs.declared.clip.Point.{Point}
+use Rattle.walk.specs.declared.clip.Pair.{Pair}
 use Rattle.walk.specs.declared.clip.Clipped.{Clipped}
 
 -- 'An end's sides: left if x is below xmin, else right if above xmax; bottom if y is below ymin, else top if above ymax.'
@@ -31,23 +31,23 @@ unfoldable pub common : Sides → Sides → Bool
 common s t = s.left && t.left || s.right && t.right || s.bottom && t.bottom || s.top && t.top
 
 -- 'Left ...: y becomes y1 + (y2 - y1) × (xmin - x1) / (x2 - x1), multiplied before divided, both ends as earlier cuts left them, and the end's x becomes xmin; the others alike.'
-abbrev pub on_vertical : Segment → Float → Point
+abbrev pub on_vertical : Segment → Float → Pair
 on_vertical s x = record { x = x; y = s.y1 ⊕ (s.y2 ⊖ s.y1) ⊗ (x ⊖ s.x1) ⊘ (s.x2 ⊖ s.x1) }
 
-abbrev pub on_horizontal : Segment → Float → Point
+abbrev pub on_horizontal : Segment → Float → Pair
 on_horizontal s y = record { x = s.x1 ⊕ (s.x2 ⊖ s.x1) ⊗ (y ⊖ s.y1) ⊘ (s.y2 ⊖ s.y1); y = y }
 
 -- '... at its first side in the order left, right, bottom, top'
-unfoldable pub cut_point : Bounds → Segment → Sides → Point
+unfoldable pub cut_point : Bounds → Segment → Sides → Pair
 cut_point b s end =
     cond end.left (on_vertical s b.left)
     (cond end.right (on_vertical s b.right)
     (cond end.bottom (on_horizontal s b.bottom) (on_horizontal s b.top)))
 
-abbrev pub with_first : Segment → Point → Segment
+abbrev pub with_first : Segment → Pair → Segment
 with_first s p = record { x1 = p.x; y1 = p.y; x2 = s.x2; y2 = s.y2 }
 
-abbrev pub with_second : Segment → Point → Segment
+abbrev pub with_second : Segment → Pair → Segment
 with_second s p = record { x1 = s.x1; y1 = s.y1; x2 = p.x; y2 = p.y }
 
 -- '... cut the first end if it has a side, else the second'

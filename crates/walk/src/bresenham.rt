@@ -24,7 +24,7 @@ pub struct Dot {
 
 // A walk: its first dot, the longer and the shorter difference, whether it runs along the rows
 // (`steep`) and downwards in number in the shorter direction (`back`); then the steps made, the
-// offset in the shorter direction, and the decision value.
+// offset in the shorter direction, and the decision value. Of `steep` and `back` each may stand without the other.
 #[derive(Clone, Copy)]
 pub struct Walk {
     pub x: u16,
@@ -78,6 +78,7 @@ fn is_above_zero(d: i64) -> bool
 }
 
 // The decision value after a step: `if d > 0 { d -= 2 * dx; } d += 2 * dy;`.
+#[tactic(auto, using(crate::proofs::Decision::from_bits), unfolding(crate::specs::Walk::next_decision))]
 fn next_decision(d: i64, long: u16, short: u16) -> i64
     requires { mag d < 2 ^ 20 }
     ensures { result ≡ next_decision long short d }
@@ -119,6 +120,7 @@ fn moved_by(back: bool, a: u16, o: u16) -> u32
 
 impl Walk {
     // The walk between two ends, at its first dot.
+    #[tactic(auto, using(crate::proofs::Decision::from_bits), unfolding(crate::specs::Walk::walk_of))]
     pub fn new(e: Ends) -> Walk
         ensures { result ≡ walk_of e }
     {
@@ -174,6 +176,7 @@ impl Route for Walk {
     }
 
     // The walk at its next dot; a walk at its end stays.
+    #[tactic(auto, using(crate::proofs::Decision::from_bits), unfolding(crate::specs::Walk::step_of))]
     fn step(self) -> Walk {
         let near = is_small(self.d);
         let go = near & (self.at < self.long) & (self.offset < 65535);

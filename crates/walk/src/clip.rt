@@ -28,6 +28,7 @@ pub struct Clipped {
     pub cuts: u32,
 }
 
+// The sides of the bounds beyond which an end lies: flags, since two of the four may be met.
 #[derive(Clone, Copy)]
 struct Sides {
     left: bool,
@@ -36,10 +37,11 @@ struct Sides {
     top: bool,
 }
 
+// A point by its coordinates: a pair of a Points is one.
 #[derive(Clone, Copy)]
-struct Point {
-    x: f64,
-    y: f64,
+pub struct Pair {
+    pub x: f64,
+    pub y: f64,
 }
 
 // The sides of the bounds beyond which a point lies.
@@ -81,24 +83,24 @@ fn met(from: f64, end: f64, across: f64, far: f64, to: f64) -> f64
 }
 
 // Where the line meets the upright at x.
-fn on_vertical(s: Segment, x: f64) -> Point
+fn on_vertical(s: Segment, x: f64) -> Pair
     ensures { result ≡ on_vertical s x }
 {
     let y = met(s.y1, s.y2, s.x1, s.x2, x);
-    Point { x, y }
+    Pair { x, y }
 }
 
 // Where the line meets the level at y.
-fn on_horizontal(s: Segment, y: f64) -> Point
+fn on_horizontal(s: Segment, y: f64) -> Pair
     ensures { result ≡ on_horizontal s y }
 {
     let x = met(s.x1, s.x2, s.y1, s.y2, y);
-    Point { x, y }
+    Pair { x, y }
 }
 
 // Where an end with these sides is cut: at its first side in the order left, right, bottom, top.
 #[tactic(auto, unfolding(crate::specs::Clip::cut_point))]
-fn cut_point(b: Bounds, s: Segment, end: Sides) -> Point
+fn cut_point(b: Bounds, s: Segment, end: Sides) -> Pair
     ensures { result ≡ cut_point b s end }
 {
     if end.left {
@@ -135,6 +137,7 @@ fn cut(b: Bounds, s: Segment, first: Sides, second: Sides) -> Segment
 }
 
 // The part of a line with an end outside, by the rule.
+#[tactic(auto, using(crate::proofs::Clipping::clipping))]
 fn clip_outside(b: Bounds, line: Segment) -> Clipped
     ensures { result ≡ clip_of b line }
 {
@@ -163,7 +166,8 @@ fn clip_outside(b: Bounds, line: Segment) -> Clipped
 }
 
 // Whether a point has a side, with no need to know which.
-fn is_outside(b: Bounds, x: f64, y: f64) -> bool
+#[tactic(auto, unfolding(crate::specs::Clip::sides_of, crate::specs::Clip::outside))]
+pub fn is_outside(b: Bounds, x: f64, y: f64) -> bool
     ensures { result ≡ outside (sides_of b x y) }
 {
     (x < b.left) | (x > b.right) | (y < b.bottom) | (y > b.top)
@@ -171,6 +175,8 @@ fn is_outside(b: Bounds, x: f64, y: f64) -> bool
 
 // The part of a line inside the bounds, with the number of cuts, at most 8. Most lines have no side at
 // either end, and are accepted at once.
+#[inline(always)]
+#[tactic(auto, using(crate::proofs::Clipping::clipping))]
 pub fn clip_line(b: Bounds, line: Segment) -> Clipped
     ensures { result ≡ clip_of b line }
 {

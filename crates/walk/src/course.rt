@@ -49,6 +49,7 @@ fn place(a: u16, b: u16) -> u64
 }
 
 // What a step from a toward b adds.
+#[tactic(auto, using(crate::proofs::FixedPoint::slopes), unfolding(crate::specs::Course::move_of))]
 fn moves(long: u16, a: u16, b: u16) -> u64
     ensures { result ≡ move_of long a b }
 {
@@ -86,7 +87,7 @@ impl Route for Course {
         self.count
     }
 
-    // The dot that the course is at.
+    // The dot that the course is at. By `as`, since a quotient by ONE is below 2^16: a try_from would test each dot.
     fn dot(self) -> Dot {
         Dot {
             column: (self.column / ONE) as u32,

@@ -1,24 +1,26 @@
 -- The calls on lent words and stores answer as the calls on the canvas that the words mean.
 use Prim.Native.Nat.{ℕ, zero, suc}
-use mathlib.Core.Path.{◌≡◌, refl, sym, ap, ◌∙◌}
+use mathlib.Core.Path.{◌≡◌, refl, sym, ◌∙◌}
 use mathlib.Core.Bool.{Bool, true, false, cond}
 use mathlib.Core.List.{List, [], ◌∷◌}
 use native.Mathlib.Omega.{arith}
-use lib.Ieee.{Float, binary64, of_bits}
+use lib.Ieee.{binary64}
 use lib.Ieee.Bits.{of_bits-to_bits, of_bits-fits}
 use lib.ListN.{length}
 use Rattle.floats.specs.Arithmetic.{bits}
 use Rattle.ledger.specs.Screen.{cell_on}
-use Rattle.ledger.specs.Calls.{Opening, Call, draw, points, dot, layer, marker, print, render, open_refusal}
-use Rattle.ledger.specs.Ledger.{Reply, refused, done, opened, unless, reply_unless, ledger_replies}
-use Rattle.ledger.specs.Model.{State, open_canvas, open_cells, opened_canvas, zero_canvas, refusal_on, accepted_on, state_after, reply_after, replies}
-use Rattle.ledger.specs.Outcomes.{given, accepted_answer, answer_unless, answer_on, reply_of, screen_left}
+use Rattle.ledger.specs.Calls.{Call, draw, points, dot, layer, marker, print, render, open_refusal}
+use Rattle.ledger.specs.declared.state.Opening.{Opening}
+use Rattle.ledger.specs.Ledger.{refused, done, opened, unless, ledger_replies}
+use Rattle.ledger.specs.Model.{open_canvas, opened_canvas, zero_canvas, refusal_on, accepted_on, state_after, replies}
+use Rattle.ledger.specs.Outcomes.{accepted_answer, answer_unless, answer_on, reply_of, screen_left}
 use Rattle.ledger.specs.declared.state.Canvas.{Canvas}
 use Rattle.ledger.specs.Answer.{Answer, Refused, Painted, Done, Rendered}
 use Rattle.ledger.specs.declared.screen.ScreenCell.{ScreenCell}
 use Rattle.ledger.proofs.Promise.{promise}
-use Rattle.words.specs.Words.{short_words, canvas_of, bits_of, kept_words, all_words, changed_words, cleared_words, fixed_words, words_after, painted_after}
-use Rattle.words.specs.Hosted.{Host, host, state_of, host_after, host_reply, seen_as, seen_reply, host_open_refusal, host_opened, Step, opening, calling, step_after, step_reply, host_replies, model_after, model_reply, model_replies, callings, TypedOpening, TypedCall, Typed, AllTyped, Hosted}
+use Rattle.words.specs.Words.{short_words, kept_words, all_words, changed_words, cleared_words, fixed_words, words_after, painted_after}
+use Rattle.form.specs.Fields.{bits_of}
+use Rattle.words.specs.Hosted.{Host, host, state_of, host_after, host_reply, seen_as, seen_reply, host_open_refusal, host_opened, Step, opening, calling, step_after, step_reply, host_replies, model_after, model_reply, model_replies, callings, TypedOpening, Typed, AllTyped, Hosted}
 use Rattle.words.proofs.Laws.{Wide, all-canvas, short-kept, short-all, length-changed, length-cleared, length-fixed, cleared-canvas}
 use Rattle.words.proofs.Accepted.{short-refusal, after-state}
 use Rattle.words.proofs.Books.{books-open}

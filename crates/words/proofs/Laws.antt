@@ -1,18 +1,17 @@
 -- The canvas that words mean after its fields were put into them.
-use Prim.Native.Nat.{ℕ, ◌%◌, ◌^◌, ◌≤◌, ◌<◌}
-use mathlib.Core.Path.{◌≡◌, refl, sym, ap, ◌∙◌}
+use Prim.Native.Nat.{ℕ, ◌^◌, ◌≤◌, ◌<◌}
+use mathlib.Core.Path.{◌≡◌, refl}
 use mathlib.Core.Bool.{Bool, true, false, cond}
 use mathlib.Core.List.{List, [], ◌∷◌}
 use native.Mathlib.Nat.{mod-lt, mod-eq_of_lt}
 use native.Mathlib.Omega.{arith}
-use lib.Dec.{eqb, ltb}
-use lib.ListN.{length, get_or, set, length-set}
-use borrow.Author.Tests.{ltb-false, ltb-true, le-ltb, lt-ltb}
+use lib.ListN.{length, get_or, length-set}
+use borrow.Author.Tests.{ltb-false}
 use Rattle.floats.specs.Arithmetic.{bits}
-use Rattle.walk.specs.declared.clip.Bounds.{Bounds}
 use Rattle.ledger.specs.Model.{zero_canvas}
 use Rattle.ledger.specs.declared.state.Canvas.{Canvas}
-use Rattle.words.specs.Words.{canvas_words, short_words, mark_of, word_of, canvas_in, canvas_of, changed_words, cleared_words, fixed_words, kept_words, all_words, bits_of}
+use Rattle.words.specs.Words.{canvas_words, short_words, mark_of, word_of, canvas_in, canvas_of, changed_words, cleared_words, fixed_words, kept_words, all_words}
+use Rattle.form.specs.Fields.{bits_of}
 
 pub length-changed : (words : List ℕ) (c : Canvas) → length (changed_words words c) ≡ length words
 length-changed words c = simp length-set

@@ -1,10 +1,10 @@
 -- The calls on lent words and stores: what each leaves and answers, and one claim about every list of them.
-use Rattle.std.specs.Prelude.{◌≡◌, Bool, true, false, cond, List, [], ◌∷◌, ℕ, zero, suc, ◌<◌, ◌^◌, T, Float, length}
+use Rattle.std.specs.Prelude.{◌≡◌, true, false, cond, List, [], ◌∷◌, ℕ, zero, suc, ◌<◌, ◌^◌, T, Float, length}
 use Rattle.std.specs.Float.{binary64}
 use Rattle.std.specs.Float.Ieee.{fits}
-use Rattle.walk.specs.declared.clip.Bounds.{Bounds}
 use Rattle.ledger.specs.Screen.{cell_on}
-use Rattle.ledger.specs.Calls.{Opening, Call, draw, points, dot, layer, marker, print, render, open_refusal}
+use Rattle.ledger.specs.Calls.{Call, draw, points, dot, layer, marker, print, render, open_refusal}
+use Rattle.ledger.specs.declared.state.Opening.{Opening}
 use Rattle.ledger.specs.Ledger.{opened, Reply, refused, painted, done, shown, reply_unless, Ledger, ledger_after, ledger_reply, ledger_replies}
 use Rattle.ledger.specs.Model.{State, open_canvas, open_cells, refusal_on, state_after, reply_after, replies}
 use Rattle.ledger.specs.Outcomes.{given, answer_on, reply_of, screen_left}

@@ -1,8 +1,7 @@
 -- A canvas as a lent list of 64-bit words, a word a field, the bounds as their bits. Every list means a canvas.
 use Rattle.std.specs.Prelude.{ℕ, ◌%◌, ◌^◌, Bool, cond, List, eqb, ltb, Float, length, get_or, set, Result, Ok, Err}
-use Rattle.std.specs.Float.{binary64}
-use Rattle.std.specs.Float.Ieee.{to_bits}
 use Rattle.floats.specs.Arithmetic.{bits}
+use Rattle.form.specs.Fields.{bits_of}
 use Rattle.walk.specs.declared.clip.Bounds.{Bounds}
 use Rattle.refusals.specs.declared.refusal.Refusal.{Refusal}
 use Rattle.ledger.specs.Model.{zero_canvas}
@@ -56,10 +55,6 @@ changed_words words c =
 
 unfoldable pub kept_words : List ℕ → Canvas → List ℕ
 kept_words words c = cond (short_words words) words (changed_words words c)
-
--- the bits of a float; a NaN's are those of the quiet one
-abbrev pub bits_of : Float → ℕ
-bits_of x = to_bits binary64 x
 
 -- the words without a meaning
 abbrev pub cleared_words : List ℕ → List ℕ

@@ -5,10 +5,10 @@
 ghost use Rattle.std.specs.Prelude.{◌≡◌, ◌≤◌, ◌^◌, ◌%◌, length};
 ghost use Rattle.floats.specs.Arithmetic.{bits};
 ghost use Rattle.refusals.specs.Refusals.{number_in};
-ghost use Rattle.words.specs.Words.{canvas_words, short_words, mark_of, bounds_in, canvas_of, kept_words, all_words, bits_of, changed_words, cleared_words, fixed_words, words_left};
+ghost use Rattle.words.specs.Words.{canvas_words, short_words, mark_of, bounds_in, canvas_of, kept_words, all_words, changed_words, cleared_words, fixed_words, words_left};
 
 use canvas::calls::zero_canvas;
-use form::fields::from_bits;
+use form::fields::{from_bits, to_bits};
 use ledger::state::Canvas;
 use refusals::refusal::Refusal;
 use walk::clip::Bounds;
@@ -22,7 +22,8 @@ pub fn is_short(words: &[u64]) -> bool
     words.len() < WORDS
 }
 
-// A word as a field of 8, 16 and 32 bits, and as a mark.
+// A word as a field of 8, 16 and 32 bits, and as a mark. By `as`, since a TryFrom would answer an error that never comes;
+// three, since a cast names its types.
 fn as8(word: u64) -> u8
     ensures { result ≡ word % 2 ^ 8 }
 {
@@ -45,16 +46,6 @@ fn as_mark(word: u64) -> bool
     ensures { result ≡ mark_of word }
 {
     word % 2 == 1
-}
-
-// The bits of a float, a NaN's too.
-fn bits_of(x: f64) -> u64
-    ensures { (result ≡ bits_of x) × (bits result ≡ x) }
-{
-    if x == x {
-        return f64::to_bits(x);
-    }
-    9221120237041090560
 }
 
 fn bounds_in(words: &[u64]) -> Bounds
@@ -132,10 +123,10 @@ fn put_fixed(words: &mut [u64], c: Canvas)
     ensures { words.new ≡ fixed_words words.old c }
 {
     let b = c.bounds;
-    words[0] = bits_of(b.left);
-    words[1] = bits_of(b.right);
-    words[2] = bits_of(b.bottom);
-    words[3] = bits_of(b.top);
+    words[0] = to_bits(b.left);
+    words[1] = to_bits(b.right);
+    words[2] = to_bits(b.bottom);
+    words[3] = to_bits(b.top);
     words[6] = u64::from(c.background);
     words[9] = u64::from(c.columns);
     words[10] = u64::from(c.rows);

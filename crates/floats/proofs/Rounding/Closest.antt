@@ -6,8 +6,8 @@ use lib.Dec.{is_le, compare_is_eq, nleb→lt, eqb_refl}
 use lib.Arith.{lt_of_le-ne}
 use lib.Ieee.{nearest}
 use lib.Ieee.Nearest.{closest}
+use Rattle.std.proofs.lemmas.Bool.{cases_lt}
 use Rattle.floats.specs.Rounding.{dist}
-use Rattle.floats.proofs.Cases.{lt-or-le}
 
 -- what `compare` says
 abbrev Compared : Ordering → ℕ → ℕ → Type 0
@@ -29,7 +29,7 @@ data Multiple (z w b : ℕ) : Type 0 where
   high : w * b + b ≤ z * b → (z * b ≡ w * b + b → z ≡ suc w) → Multiple z w b
 
 multiple : (z w b : ℕ) → 0 < b → Multiple z w b
-multiple z w b B = elim (lt-or-le w z) [
+multiple z w b B = elim (cases_lt w z) [
   | inl h ↦ high (subst (λ (x : ℕ). x ≤ z * b) (suc-mul w b) (mul-le-mul_right b h)) (λ e. eq_of_mul-eq-mul_right b B z (suc w) (e ∙ sym (suc-mul w b)))
   | inr h ↦ low (mul-le-mul_right b h) (λ e. eq_of_mul-eq-mul_right b B z w e)
 ]
@@ -40,7 +40,7 @@ data Tie (w : ℕ) : Type 0 where
   steps : w + w % 2 ≡ suc w → suc w % 2 ≡ 0 → Tie w
 
 tie : (w : ℕ) → Tie w
-tie w = elim (lt-or-le (w % 2) 1) [ inl h ↦ stays (omega arith) (omega arith) | inr h ↦ steps (omega arith) (omega arith) ]
+tie w = elim (cases_lt (w % 2) 1) [ inl h ↦ stays (omega arith) (omega arith) | inr h ↦ steps (omega arith) (omega arith) ]
 
 -- distances on plain numbers, with a = wb + r
 module _ (a b r wb zb : ℕ) (e : wb + r ≡ a) (l : r < b) where

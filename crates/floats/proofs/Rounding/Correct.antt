@@ -5,8 +5,8 @@ use lib.Ieee.Fits.{round_is}
 use lib.Ieee.Exact.{HasValue, units_val}
 use lib.Ieee.Order.{drop, kept, round_mono}
 use lib.Ieee.Scale.{grid, round_val}
+use Rattle.std.proofs.lemmas.Bool.{cases_lt}
 use Rattle.floats.specs.Rounding.{dist, IsUnits, Nearest, midway, Rounded}
-use Rattle.floats.proofs.Cases.{lt-or-le}
 use Rattle.floats.proofs.Rounding.Kept.{kept-le, kept-ge, kept_near, kept-even}
 
 -- ---- the kept number with its exponent, as a significand: 2 ^ 53 is 2 ^ 52 at the next exponent
@@ -55,13 +55,13 @@ below_top n den D h =
     (kept_near 53 n den (lit< tt) D (2 ^ 53 - 1) 2045 (lit< tt)))
   where
     cancel : (v H : ℕ) → v * den < H * den → v < H
-    cancel v H h = elim (lt-or-le v H) [ inl g ↦ g | inr g ↦ absurd (not-le_of_lt h (mul-le-mul_right den g)) ]
+    cancel v H h = elim (cases_lt v H) [ inl g ↦ g | inr g ↦ absurd (not-le_of_lt h (mul-le-mul_right den g)) ]
 
     clash : (vd n Ld Hd Md : ℕ) → Md * 2 ≡ Ld + Hd → Ld < Hd → n < Md → dist vd n ≤ dist Ld n → Hd ≤ vd → ⊥
     clash vd n Ld Hd Md e l h d g = omega arith
 
     under : (vd n Ld Hd Md : ℕ) → Md * 2 ≡ Ld + Hd → Ld < Hd → n < Md → dist vd n ≤ dist Ld n → vd < Hd
-    under vd n Ld Hd Md e l h d = elim (lt-or-le vd Hd) [ inl g ↦ g | inr g ↦ absurd (clash vd n Ld Hd Md e l h d g) ]
+    under vd n Ld Hd Md e l h d = elim (cases_lt vd Hd) [ inl g ↦ g | inr g ↦ absurd (clash vd n Ld Hd Md e l h d g) ]
 
 -- ---- from midway on everything does: the midpoint itself rounds to an infinity, and `round` keeps the order
 abbrev midpoint : ℕ
@@ -78,7 +78,7 @@ not_finite (inf s) a c t h = h
 not_finite (fin s m e) a c t h = t
 
 above-top : (num den : ℕ) → 0 < den → midway * den ≤ num * 2 ^ 1074 → top ≤ grid binary64 num den
-above-top num den D h = elim (lt-or-le (grid binary64 num den) top) [
+above-top num den D h = elim (cases_lt (grid binary64 num den) top) [
   | inl g ↦ absurd (not_finite (round binary64 false num den) (grid binary64 num den) (2 ^ 1074)
       (subst (λ (x : Float). T (le x (round binary64 false num den))) at-midpoint (round_mono binary64 midpoint 1 num den (lit< tt) D crosswise))
       (round_val binary64 num den g))

@@ -8,8 +8,8 @@ use lib.Ieee.Digits.{size_reaches, back}
 use lib.Ieee.Fits.{kept-lt, nearest-le}
 use lib.Ieee.Nearest.{nearest-ge}
 use lib.Ieee.Order.{drop, kept}
+use Rattle.std.proofs.lemmas.Bool.{cases_lt}
 use Rattle.floats.specs.Rounding.{dist}
-use Rattle.floats.proofs.Cases.{lt-or-le}
 use Rattle.floats.proofs.Rounding.Closest.{closest-best}
 
 -- at most p digits, or 2 ^ p
@@ -73,13 +73,13 @@ module _ (p n den : ℕ) (P : 0 < p) (D : 0 < den) where
       beyond x y z n h g d = omega arith
 
   pub kept_near : (y j : ℕ) → y < 2 ^ p → dist (kept p n den * 2 ^ drop p n den * den) n ≤ dist (y * 2 ^ j * den) n
-  kept_near y j h = elim (lt-or-le j (drop p n den)) [
+  kept_near y j h = elim (cases_lt j (drop p n den)) [
     | inl l ↦ le_of_lt (further y j h l)
     | inr l ↦ subst (λ (x : ℕ). dist (kept p n den * 2 ^ drop p n den * den) n ≤ dist (x * den) n) (at-exponent y j (drop p n den) l) (near-at (y * 2 ^ (j - drop p n den)))
   ]
 
   pub kept-even : (y j : ℕ) → y < 2 ^ p → dist (kept p n den * 2 ^ drop p n den * den) n ≡ dist (y * 2 ^ j * den) n → (y * 2 ^ j ≡ kept p n den * 2 ^ drop p n den) ⊎ (kept p n den % 2 ≡ 0)
-  kept-even y j h d = elim (lt-or-le j (drop p n den)) [
+  kept-even y j h d = elim (cases_lt j (drop p n den)) [
     | inl l ↦ absurd (apart (further y j h l) d)
     | inr l ↦ elim (even-at (y * 2 ^ (j - drop p n den)) (d ∙ ap (λ (x : ℕ). dist (x * den) n) (sym (at-exponent y j (drop p n den) l)))) [
       | inl e ↦ inl (sym (at-exponent y j (drop p n den) l) ∙ ap (λ (x : ℕ). x * 2 ^ drop p n den) e)

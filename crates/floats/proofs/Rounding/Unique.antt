@@ -5,8 +5,8 @@ use lib.Pow.{pow-lt}
 use lib.Ieee.{Float, fin, binary64, up, down, fits}
 use lib.Ieee.Fits.{and_l, and_r, down_pos}
 use lib.Ieee.Digits.{back}
+use Rattle.std.proofs.lemmas.Bool.{cases_lt}
 use Rattle.floats.specs.Rounding.{dist, IsUnits, Nearest, midway, Rounded, Candidate, Finite}
-use Rattle.floats.proofs.Cases.{lt-or-le}
 use Rattle.floats.proofs.Rounding.Kept.{at-exponent}
 
 -- ---- `Nearest` pins the size: two even significands that are equally near have one between them that is nearer
@@ -38,7 +38,7 @@ between x y z n a b e h = omega arith
 
 module _ (n den : ℕ) (D : 0 < den) where
   not-both-even : (q k p j : ℕ) → Nearest n den q k → Nearest n den p j → q % 2 ≡ 0 → p % 2 ≡ 0 → dist (q * 2 ^ k * den) n ≡ dist (p * 2 ^ j * den) n → q * 2 ^ k < p * 2 ^ j → ⊥
-  not-both-even q k p j N M eq ep d h = elim (lt-or-le j k) [
+  not-both-even q k p j N M eq ep d h = elim (cases_lt j k) [
     | inl l ↦ crossed (p * 2 ^ j) (q * 2 ^ k) (beneath q k p j N.leading M.digits l) h
     | inr l ↦
         let z = p * 2 ^ (j - k) in
@@ -68,7 +68,7 @@ module _ (n den : ℕ) (D : 0 < den) where
         | inl e ↦ sym e
         | inr eq ↦ elim (M.even q k N.digits (sym d)) [
           | inl e ↦ e
-          | inr ep ↦ elim (lt-or-le (q * 2 ^ k) (p * 2 ^ j)) [
+          | inr ep ↦ elim (cases_lt (q * 2 ^ k) (p * 2 ^ j)) [
             | inl h ↦ absurd (not-both-even q k p j N M eq ep d h)
             | inr h ↦ elim (eq-or-lt_of_le h) [ inl e ↦ sym e | inr g ↦ absurd (not-both-even p j q k M N ep eq (sym d) g) ]
           ]
@@ -83,7 +83,7 @@ in_units (pos k) = k + 1074
 in_units (negsuc k) = 1074 - suc k
 
 exponent-bound : (k : ℕ) → 2 ^ suc k ≤ 2 ^ 1074 → suc k ≤ 1074
-exponent-bound k h = elim (lt-or-le 1074 (suc k)) [ inl g ↦ absurd (not-le_of_lt (pow-lt g) h) | inr g ↦ g ]
+exponent-bound k h = elim (cases_lt 1074 (suc k)) [ inl g ↦ absurd (not-le_of_lt (pow-lt g) h) | inr g ↦ g ]
 
 in-units : (m : ℕ) (e : ℤ) → down e ≤ 2 ^ 1074 → m * up e * 2 ^ 1074 ≡ m * 2 ^ in_units e * down e
 in-units m (pos k) h = mul_assoc m (2 ^ k) (2 ^ 1074) ∙ ap (λ (x : ℕ). m * x) (sym (pow-add 2 k 1074)) ∙ sym (mul-one (m * 2 ^ (k + 1074)))
@@ -184,7 +184,7 @@ units-unique (fin t (suc m) e) (fin u (suc l) d) s n F G v w =
 -- ---- so a result rounded once is determined, and every finite float is a candidate
 
 pub rounded-unique : (x y : Float) (s : Bool) (num den : ℕ) → T (fits binary64 x) → T (fits binary64 y) → Rounded x s num den → Rounded y s num den → x ≡ y
-rounded-unique x y s num den F G R S = elim (lt-or-le (num * 2 ^ 1074) (midway * den)) [
+rounded-unique x y s num den F G R S = elim (cases_lt (num * 2 ^ 1074) (midway * den)) [
   | inl h ↦
       let a = R.within h in
       let b = S.within h in

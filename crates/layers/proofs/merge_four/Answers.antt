@@ -1,15 +1,10 @@
 -- Four cells without ink stay as they are; the others go by the marker.
-use mathlib.Core.Path.{◌≡◌, refl, sym, ◌∙◌}
+use mathlib.Core.Path.{◌≡◌, refl, ◌∙◌}
 use mathlib.Core.Logic.{inl, inr}
 use Rattle.std.proofs.Common.{rules}
 use Rattle.grids.specs.declared.markers.Marker.TheVariants.{Braille, Dot, Custom}
 use Rattle.grids.specs.Symbols.{pattern_count}
-use Rattle.layers.proofs.SavedCells.{four-stay}
 use Rattle.layers.proofs.merge_four.Goals as goal
-
-pub returns-then-are_bare : goal.returns-then-are_bare
-returns-then-are_bare c =
-    four-stay c.args.marker _ c.args.cells.now c.args.i c.requires.0 (sym c.are_bare.ensures ∙ c.if-are_bare.true)
 
 pub returns-in-Braille : goal.returns-in-Braille
 unfolding pattern_count

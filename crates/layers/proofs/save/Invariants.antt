@@ -7,4 +7,4 @@ use Rattle.layers.proofs.save.Given as goal
 
 abbrev pub invariant-loop-i : goal.invariant-loop-i
 invariant-loop-i l =
-    l.cells ≡ each_cell (saved_cell l.marker (l.character % 2 ^ 21)) l.initial.cells l.i
+    l.cells ≡ each_cell (saved_cell l.grid.marker (l.character % 2 ^ 21)) l.initial.cells l.i

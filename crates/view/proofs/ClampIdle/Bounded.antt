@@ -2,9 +2,9 @@
 use Rattle.std.proofs.Common.{◌≡◌, ℕ, suc, ◌+◌, ◌-◌, ◌*◌, ◌^◌, ◌<◌, ◌≤◌, min, Bool, true, false, ℤ, sym, inl, inr, le_of_eq, lt_of_lt_of_le, lt_of_le_of_lt, div-lt_iff_lt-mul, lt_of_mul-lt-mul_right, mul-lt-mul_of_pos_right, mul_right_comm, arith, pow_pos}
 use lib.Ieee.{Float, nan, inf, fin, up, down}
 use lib.Ieee.Fits.{down_pos}
+use Rattle.std.proofs.lemmas.Bool.{cases_lt}
 use Rattle.floats.specs.Rounding.{dist, IsUnits, midway, Rounded}
 use Rattle.floats.specs.Truncation.{whole_part, as_unsigned}
-use Rattle.floats.proofs.Cases.{lt-or-le}
 
 -- 1, and a quarter, in units
 abbrev pub one : ℕ
@@ -29,7 +29,7 @@ at_most r s num den q j R D few under h =
       exponent = f.1;
       few = f.3.digits;
       is = f.2;
-      low = elim (lt-or-le (q * 2 ^ j) (f.0 * 2 ^ f.1)) [
+      low = elim (cases_lt (q * 2 ^ j) (f.0 * 2 ^ f.1)) [
         | inl g ↦ absurd (past (f.0 * 2 ^ f.1 * den) (q * 2 ^ j * den) (num * one) h (mul-lt-mul_of_pos_right g D) (f.3.near q j few))
         | inr g ↦ g
       ];

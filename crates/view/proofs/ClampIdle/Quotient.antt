@@ -4,9 +4,9 @@ use lib.Ieee.{Float, nan, inf, fin, unlike, up, down}
 use lib.Ieee.Fits.{down_pos, up_pos}
 use lib.Ieee.Exact.{HasValue}
 use lib.Ieee.Positive.{first_pos}
+use Rattle.std.proofs.lemmas.Bool.{cases_lt}
 use Rattle.floats.specs.Arithmetic.{◌⊗◌, ◌⊘◌}
 use Rattle.floats.specs.Rounding.{IsUnits, invalid, infinite, fraction, Rounds, Rounded}
-use Rattle.floats.proofs.Cases.{lt-or-le}
 use Rattle.floats.proofs.Rounding.Operations.{product-once, quotient-once}
 use Rattle.view.proofs.ClampIdle.Bounded.{one, quarter, AtMost, at_most}
 
@@ -25,7 +25,7 @@ record JustAbove (n k : ℕ) : Type 0 where
   near : 4 * (digits * 2 ^ exponent) ≤ (4 * k + 1) * n
 
 just-above : (q k : ℕ) → q < 2 ^ 53 → k ≤ 399 → JustAbove q k
-just-above q k Q K = elim (lt-or-le (q * k) (2 ^ 53)) [
+just-above q k Q K = elim (cases_lt (q * k) (2 ^ 53)) [
   | inl h ↦ record { digits = q * k; exponent = 0; few = h; above = omega arith; near = omega arith }
   | inr h ↦
       let t : q * k ≤ 399 * q = le_trans (mul-le-mul_left q K) (le_of_eq (mul_comm q 399)) in

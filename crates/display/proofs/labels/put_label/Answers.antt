@@ -2,11 +2,8 @@
 use Rattle.std.proofs.Common.{◌≡◌, ◌*◌, length, arith}
 use lib.Seq.{take-length}
 use Rattle.ledger.specs.Labels.{put_label}
-use Rattle.ledger.proofs.Runs.{sets_more, sets-label}
+use Rattle.ledger.proofs.Runs.{sets-label}
 use Rattle.display.proofs.labels.put_label.Goals as goal
-
-pub loop-i-preserved : goal.loop-i-preserved
-loop-i-preserved c = rw (c.from.ensures, c.loop-i.invariant) (sets_more _ 4 c.args.text.now c.loop-i.i c.loop-i-test.true)
 
 pub returns-after-loop-i : goal.returns-after-loop-i
 unfolding put_label

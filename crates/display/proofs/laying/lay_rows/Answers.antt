@@ -1,14 +1,7 @@
 -- The next row, laid in a part of its own.
 use Rattle.std.proofs.Common.{◌≡◌, ℕ, ◌+◌, ◌-◌, ◌*◌, ◌/◌, ◌≤◌, length, take, drop, arith}
-use Rattle.display.proofs.Rows.{length-part, row-in-screen, row_next}
+use Rattle.display.proofs.Rows.{length-part, row_in_screen, row_next}
 use Rattle.display.proofs.laying.lay_rows.Goals as goal
-
-pub slice_bounds-lay_row-end : goal.slice_bounds-lay_row-end
-slice_bounds-lay_row-end c =
-    let a = c.args in
-    let r = row-in-screen a.c.columns a.c.rows a.a a.screen.now c.requires.0 c.requires.1 c.loop-row.row (omega arith) in
-    let room : c.spot_index-at.result * 3 + c.from-columns.result * 3 ≤ length c.loop-row.screen = omega (arith, r, c.spot_index-at.ensures.place, c.from-columns.ensures, c.loop-row.auto.screen) in
-    room
 
 pub loop-row-preserved : goal.loop-row-preserved
 loop-row-preserved c =
@@ -17,7 +10,7 @@ loop-row-preserved c =
     let at : ℕ = c.spot_index-at.result * 3 in
     let k : ℕ = at + c.from-columns.result * 3 - at in
     let width : c.from-columns.result ≡ a.c.columns = c.from-columns.ensures in
-    let r = row-in-screen a.c.columns a.c.rows a.a a.screen.now c.requires.0 c.requires.1 c.loop-row.row (omega arith) in
+    let r = row_in_screen a.c.columns a.c.rows a.a a.screen.now c.requires.0 c.requires.1 c.loop-row.row (omega arith) in
     let room : at + k ≤ length screen = omega (arith, r, c.spot_index-at.ensures.place, width, c.loop-row.auto.screen) in
     let long = length-part screen at k room in
     let cells : length (take k (drop at screen)) / 3 ≡ a.c.columns = omega (arith, long, width) in

@@ -2,7 +2,7 @@
 use native.Mathlib.Omega.{arith}
 use mathlib.Core.Path.{sym, ◌∙◌}
 use Rattle.exports.proofs.Onto.{drawn-part, screen-part, refused-kept}
-use Rattle.exports.proofs.Statuses.{numbered}
+use Rattle.refusals.proofs.Numbers.{numbered}
 use Rattle.exports.proofs.pictures.mossbuckle_draw.Goals as goal
 
 pub returns-in-Err-clause-shown : goal.returns-in-Err-clause-shown

@@ -1,10 +1,10 @@
 -- The tests in the order of the definition.
-use Rattle.std.proofs.Common.{◌+◌, ◌<◌, length, arith}
+use Rattle.std.proofs.Common.{◌≡◌, ℕ, ◌+◌, ◌<◌, ◌^◌, List, length, arith}
 use Rattle.std.proofs.lemmas.Result.{err_from_is_err_and}
-use Rattle.form.specs.Forms.{record_end}
-use Rattle.form.proofs.FormSteps.{headed, extra-refused, map-bound, widths-are, too_long, ended-early, unknown-kind, cut_short, well-formed}
+use Rattle.form.specs.Forms.{map_at, record_widths, record_end}
+use Rattle.form.proofs.FormSteps.{Headed, headed, extra-refused, map-bound, widths-are, too_long, ended-early, unknown-kind, cut_short, well-formed}
 use Rattle.form.proofs.sizes.record_form.Goals as goal
-use Rattle.form.proofs.sizes.record_form.Goals.{then-at-gt65536-via-then-at-gt65536, then-at-gt65536-via-else-at-gt65536+then-file-at}
+use Rattle.form.proofs.sizes.record_form.Goals.{then-at-gt65536-via-then-at-gt65536, then-at-gt65536-via-else-at-gt65536+then-file-at, In_ok-size}
 
 pub returns-then-file-gt65536-clause-number : goal.returns-then-file-gt65536-clause-number
 returns-then-file-gt65536-clause-number c = let a = c.args in too_long a.file.now a.at c.if-file-gt65536.true
@@ -30,25 +30,35 @@ returns-in_err-size-clause-number c =
     let e = rw (widths-are a.file.now a.at _ c.in_ok-kind.ensures) at c.in_err-size.ensures.number in
     rw (p.1, p.2) (extra-refused _ _ _ (headed _ _ _ c.in_ok-kind.ensures c.if-file-gt65536.false c.if-file-at.false) e)
 
-pub returns-then-part-size-clause-number : goal.returns-then-part-size-clause-number
+-- a known kind, whose map has no other bit, and where the record ends
+record Sized (file : List ℕ) (at size : ℕ) : Type 0 where
+  head : Headed file at
+  few : map_at file at < 2 ^ length (record_widths file at)
+  end : at + 2 + size ≡ record_end file at
+
+sized : (c : In_ok-size) → Sized c.args.file.now c.args.at c.in_ok-size.size
 unfolding record_end
+sized c =
+    let file = c.args.file.now in
+    let w = widths-are file c.args.at _ c.in_ok-kind.ensures in
+    let e = rw w at c.in_ok-size.ensures.value in
+    record {
+      head = headed _ _ _ c.in_ok-kind.ensures c.if-file-gt65536.false c.if-file-at.false;
+      few = map-bound file c.args.at (rw w at c.in_ok-size.ensures.number);
+      end = rw e;
+    }
+
+pub returns-then-part-size-clause-number : goal.returns-then-part-size-clause-number
 returns-then-part-size-clause-number c =
-    let a = c.args in
-    let n = rw (widths-are a.file.now a.at _ c.in_ok-kind.ensures) at c.in_ok-size.ensures.number in
-    let e = rw (widths-are a.file.now a.at _ c.in_ok-kind.ensures) at c.in_ok-size.ensures.value in
-    cut_short _ _ (headed _ _ _ c.in_ok-kind.ensures c.if-file-gt65536.false c.if-file-at.false) (map-bound a.file.now a.at n) (omega (arith, e, c.if-part-size.true))
+    let s = sized (goal.at.returns-then-part-size-clause-number c).In_ok-size in
+    cut_short _ _ s.head s.few (omega (arith, s.end, c.if-part-size.true))
 
 pub returns-clause-number : goal.returns-clause-number
-unfolding record_end
 returns-clause-number c =
-    let a = c.args in
-    let n = rw (widths-are a.file.now a.at _ c.in_ok-kind.ensures) at c.in_ok-size.ensures.number in
-    let e = rw (widths-are a.file.now a.at _ c.in_ok-kind.ensures) at c.in_ok-size.ensures.value in
-    well-formed _ _ (headed _ _ _ c.in_ok-kind.ensures c.if-file-gt65536.false c.if-file-at.false) (map-bound a.file.now a.at n) (omega (arith, e, c.if-part-size.false))
+    let s = sized (goal.at.returns-clause-number c).In_ok-size in
+    well-formed _ _ s.head s.few (omega (arith, s.end, c.if-part-size.false))
 
 pub returns-clause-end : goal.returns-clause-end
-unfolding record_end
 returns-clause-end c =
-    let w = widths-are c.args.file.now c.args.at _ c.in_ok-kind.ensures in
-    let e = rw w at c.in_ok-size.ensures.value in
-    rw e
+    let s = sized (goal.at.returns-clause-end c).In_ok-size in
+    s.end

@@ -15,14 +15,14 @@ returns-then-is_short-clause-opened c =
 pub returns-in-Ok-clause-opened : goal.returns-in-Ok-clause-opened
 returns-in-Ok-clause-opened c =
     let a = c.args in
-    let is = rw c.in-Ok.is at c.open-opened.ensures.canvas in
+    let is = rw c.in-Ok.is at c.«open».ensures.canvas in
     opened-long (host a.canvas.now a.cells.now a.labels.now) (opening_with a.columns a.rows a.left a.right a.bottom a.top a.number a.character a.background)
-    (Ok c.in-Ok.c) (sym c.is_short.ensures ∙ c.if-is_short.false) is c.open-opened.ensures.cells c.keep_all.ensures refl
+    (Ok c.in-Ok.c) (sym c.is_short.ensures ∙ c.if-is_short.false) is c.«open».ensures.cells c.keep_all.ensures refl
 
 pub returns-in-Err-clause-opened : goal.returns-in-Err-clause-opened
 returns-in-Err-clause-opened c =
     let a = c.args in
-    let is = rw c.in-Err.is at c.open-opened.ensures.canvas in
+    let is = rw c.in-Err.is at c.«open».ensures.canvas in
     let words = rw c.zero_canvas.ensures at c.keep_all-in-Err.ensures in
     opened-long (host a.canvas.now a.cells.now a.labels.now) (opening_with a.columns a.rows a.left a.right a.bottom a.top a.number a.character a.background)
-    (Err c.in-Err.refusal) (sym c.is_short.ensures ∙ c.if-is_short.false) is c.open-opened.ensures.cells words c.from.ensures
+    (Err c.in-Err.refusal) (sym c.is_short.ensures ∙ c.if-is_short.false) is c.«open».ensures.cells words c.from.ensures

@@ -10,7 +10,7 @@ set_braille-requires c =
     let a = c.args in
     let l = c.loop-dot in (
       c.requires.0,
-      dot-held a.p (braille_cell a.p.columns) a.cells.now l.cells a.c _ c.in-Some.dot c.requires.1 l.auto.cells
+      dot-held a.p (braille_cell a.p.grid.columns) a.cells.now l.cells a.c _ c.in-Some.dot c.requires.1 l.auto.cells
           (YieldsList-turn (course-yields a.c _ cc) l.yielded _ l.yielded_by _ _ c.in-Some.dot c.in-Some.is c.next.ensures.steps),
     )
 

@@ -8,15 +8,10 @@ held_words-requires c =
     let a = c.args in
     (columns-fit a.c.column a.c.count (omega arith) (omega arith), words_inside a.p a.c a.cells.now c.requires.1 _ (by-columns c.args.p c.args.c (omega arith) (omega arith) c.requires.2 c.if-c-eq-ONE.true))
 
-pub overflow_mul-start-else-c-eq-ONE : goal.overflow_mul-start-else-c-eq-ONE
-overflow_mul-start-else-c-eq-ONE c =
-    let a = c.args in
-    omega (arith, rows_fit a.c.row a.p.columns 0 (omega arith) (omega arith) (omega arith))
-
 pub held_words-requires-else-c-eq-ONE : goal.held_words-requires-else-c-eq-ONE
 held_words-requires-else-c-eq-ONE c =
     let a = c.args in
-    (rows_fit a.c.row a.p.columns a.c.count (omega arith) (omega arith) (omega arith), words_inside a.p a.c a.cells.now c.requires.1 _ (by_rows c.args.p c.args.c (omega arith) (omega arith) c.requires.2 c.if-c-eq-ONE.false))
+    (rows_fit a.c.row a.p.grid.columns a.c.count (omega arith) (omega arith) (omega arith), words_inside a.p a.c a.cells.now c.requires.1 _ (by_rows c.args.p c.args.c (omega arith) (omega arith) c.requires.2 c.if-c-eq-ONE.false))
 
 pub returns-then-c-eq-ONE : goal.returns-then-c-eq-ONE
 returns-then-c-eq-ONE c =

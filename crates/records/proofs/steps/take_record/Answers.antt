@@ -1,8 +1,7 @@
 -- Refused for its form, or the call that its bytes stand for.
-use Rattle.std.proofs.Common.{◌≤◌, ◌+◌, ◌∙◌, ap, sym, length, drop, length-drop, arith}
+use Rattle.std.proofs.Common.{◌≤◌, ◌+◌, ◌∙◌, sym, length, drop, length-drop, arith}
 use Rattle.std.proofs.lemmas.Result.{err_from_is_err_and}
 use borrow.Author.Rules.{part_to_end}
-use Rattle.ledger.specs.Model.{refusal_on, state_after}
 use Rattle.ledger.specs.Outcomes.{given}
 use Rattle.form.specs.Fields.{size_by}
 use Rattle.form.specs.Forms.{max_file, map_at, record_widths, record_end}
@@ -19,30 +18,10 @@ returns-in_err-end c =
     let f = form-refused s a.file.now a.at _ c.in_err-end.ensures.number in
     record { step = rw (p.1, p.2) (refused-step _ _ _ f.0); state = f.1 }
 
-pub bounds-file-at : goal.bounds-file-at
-bounds-file-at c =
-    let whole = formed c.args.file.now c.args.at c.in_ok-end.ensures.number in
-    omega (arith, whole.header)
-
-pub bounds-file-at-2 : goal.bounds-file-at-2
-bounds-file-at-2 c =
-    let whole = formed c.args.file.now c.args.at c.in_ok-end.ensures.number in
-    omega (arith, whole.header)
-
 pub returns-in_err-kind : goal.returns-in_err-kind
 returns-in_err-kind c =
     let whole = formed c.args.file.now c.args.at c.in_ok-end.ensures.number in
     false-not-true (sym (known-formed c.args.file.now c.args.at whole) ∙ c.in_err-kind.ensures.1)
-
-pub slice_bounds-part-count : goal.slice_bounds-part-count
-slice_bounds-part-count c =
-    let whole = formed c.args.file.now c.args.at c.in_ok-end.ensures.number in
-    omega (arith, whole.header)
-
-pub slice_bounds-part-start : goal.slice_bounds-part-start
-slice_bounds-part-start c =
-    let whole = formed c.args.file.now c.args.at c.in_ok-end.ensures.number in
-    omega (arith, whole.header)
 
 pub record_call-requires : goal.record_call-requires
 unfolding record_end
@@ -56,21 +35,14 @@ record_call-requires c =
 pub returns-in_err-record_call : goal.returns-in_err-record_call
 returns-in_err-record_call c =
     let a = c.args in
-    let s = given a.canvas.now a.cells.now a.labels.now in
-    let f = form-called s a.file.now a.at c.in_ok-end.ensures.number in
-    let e = called-part a.file.now a.at _ c.in_ok-kind.ensures in
-    let p = err_from_is_err_and c.from_residual-in_err-record_call.result c.from_residual-in_err-record_call.ensures.1 in
     let h = c.in_err-record_call.ensures in
-    record { step = rw (p.1, p.2) (refused-step _ _ _ (h.refusal ∙ ap (refusal_on s) e ∙ sym f.0)); state = h.state ∙ ap (state_after s) e ∙ sym f.1 }
+    let f = form-called _ a.file.now a.at c.in_ok-end.ensures.number (called-part a.file.now a.at _ c.in_ok-kind.ensures) h.refusal h.state in
+    let p = err_from_is_err_and c.from_residual-in_err-record_call.result c.from_residual-in_err-record_call.ensures.1 in
+    record { step = rw (p.1, p.2) (refused-step _ _ _ f.0); state = f.1 }
 
 pub returns : goal.returns
 returns c =
     let a = c.args in
-    let s = given a.canvas.now a.cells.now a.labels.now in
-    let f = form-called s a.file.now a.at c.in_ok-end.ensures.number in
-    let e = called-part a.file.now a.at _ c.in_ok-kind.ensures in
     let h = c.in_ok-record_call.ensures in
-    record {
-      step = next-step _ _ _ (h.refusal ∙ ap (refusal_on s) e ∙ sym f.0) c.in_ok-end.ensures.end;
-      state = h.state ∙ ap (state_after s) e ∙ sym f.1;
-    }
+    let f = form-called _ a.file.now a.at c.in_ok-end.ensures.number (called-part a.file.now a.at _ c.in_ok-kind.ensures) h.refusal h.state in
+    record { step = next-step _ _ _ f.0 c.in_ok-end.ensures.end; state = f.1 }

@@ -6,9 +6,9 @@ use Rattle.text.proofs.Sizes.{product-below}
 use Rattle.report.specs.Screen.{picture_size}
 use Rattle.report.proofs.screen.picture_size.Goals as goal
 
-pub returns-then-columns-widest : goal.returns-then-columns-widest
+pub returns-then-columns-largest : goal.returns-then-columns-largest
 unfolding picture_size
-returns-then-columns-widest c = rw (sym c.read-columns.ensures, sym c.read-rows.ensures, c.if-columns-widest.true)
+returns-then-columns-largest c = rw (sym c.read-columns.ensures, sym c.read-rows.ensures, c.if-columns-largest.true)
 
 pub overflow_mul-result : goal.overflow_mul-result
 overflow_mul-result c = rw (c.from.ensures, c.from-2.ensures) (omega (arith, product-below c.read-columns.result c.read-rows.result (search rules) (search rules)))
@@ -18,4 +18,4 @@ overflow_mul-result-2 c = rw (c.from.ensures, c.from-2.ensures) (omega (arith, p
 
 pub returns : goal.returns
 unfolding picture_size
-returns c = rw (c.from.ensures, c.from-2.ensures, sym c.read-columns.ensures, sym c.read-rows.ensures, c.if-columns-widest.false)
+returns c = rw (c.from.ensures, c.from-2.ensures, sym c.read-columns.ensures, sym c.read-rows.ensures, c.if-columns-largest.false)

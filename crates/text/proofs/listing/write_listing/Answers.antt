@@ -10,6 +10,6 @@ pub returns : goal.returns
 unfolding listing
 returns c =
     let a = c.args in
-    let fits = listing-fits a.columns a.rows a.painted (cells_of a.screen.now) c.ranges.columns.fits c.ranges.rows.fits in
+    let fits = listing-fits a.screen.columns a.screen.rows a.painted (cells_of a.screen.words.now) (omega arith) (omega arith) in
     let w = from_start c.new-writer.ensures.start (next c.first_line.ensures c.cell_lines.ensures) fits in
     (search (rules, w.0), omega (arith, w.1))

@@ -20,7 +20,7 @@ pub returns : goal.returns
 unfolding terminal
 returns c =
     let a = c.args in
-    let e : c.loop-row.row ≡ a.rows = omega arith in
-    let fits = terminal-fits a.columns a.rows (cells_of a.screen.now) c.ranges.columns.fits c.ranges.rows.fits in
+    let e : c.loop-row.row ≡ a.screen.rows = omega arith in
+    let fits = terminal-fits a.screen.columns a.screen.rows (cells_of a.screen.words.now) (omega arith) (omega arith) in
     let w = from_start c.new-writer.ensures.start (rw e at c.loop-row.invariant) fits in
     (search (rules, w.0), omega (arith, w.1))

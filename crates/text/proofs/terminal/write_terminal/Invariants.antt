@@ -5,4 +5,4 @@ use Rattle.text.specs.Terminal.{shown_rows}
 use Rattle.text.proofs.terminal.write_terminal.Given as goal
 
 abbrev pub invariant-loop-row : goal.invariant-loop-row
-invariant-loop-row l = Wrote l.initial.writer (shown_rows l.columns (cells_of l.screen) l.row) l.writer
+invariant-loop-row l = Wrote l.initial.writer (shown_rows l.screen.columns (cells_of l.screen.words.now) l.row) l.writer

@@ -1,13 +1,7 @@
 -- The two ways out, by the laws of a point inside a regular view.
 use Rattle.std.proofs.Common.{◌∙◌}
-use Rattle.view.proofs.RegularView.{no_nan, dot-found, dot-numbers}
+use Rattle.view.proofs.RegularView.{dot-found, dot-numbers}
 use Rattle.view.proofs.point.dot_inside.Goals as goal
-
-pub whole_inside-requires : goal.whole_inside-requires
-whole_inside-requires c = (no_nan _ _ c.if-across-down.true).0
-
-pub whole_inside-requires-then-across-down : goal.whole_inside-requires-then-across-down
-whole_inside-requires-then-across-down c = (no_nan _ _ c.if-across-down.true).1
 
 pub returns-then-across-down : goal.returns-then-across-down
 returns-then-across-down c =

@@ -14,7 +14,7 @@ loop-k-init c = nothing _
 
 pub cell_line-requires : goal.cell_line-requires
 cell_line-requires c =
-    let a = c.args in
+    let a = c.args.screen in
     let e = rw (c.from.ensures, c.from-2.ensures) at c.loop-k-test.true in
     (has-columns a.columns a.rows c.loop-k.k e, omega (arith, product-below a.columns a.rows (omega arith) (omega arith), e))
 
@@ -24,6 +24,6 @@ loop-k-preserved c = rw add-one (next c.loop-k.invariant c.cell_line.ensures)
 
 pub returns : goal.returns
 returns c =
-    let a = c.args in
+    let a = c.args.screen in
     let e : c.loop-k.k ≡ a.columns * a.rows = omega (arith, rw (c.from.ensures, c.from-2.ensures) at c.loop-k.auto.k-end, rw (c.from.ensures, c.from-2.ensures) at c.loop-k-test.false) in
     rw e at c.loop-k.invariant

@@ -14,8 +14,8 @@ loop-column-init c = record { foreground = refl; background = refl; wrote = noth
 
 pub loop-column-preserved : goal.loop-column-preserved
 loop-column-preserved c =
-    let cells = cells_of c.args.screen.now in
-    let first = c.args.row * c.args.columns in
+    let cells = cells_of c.args.screen.words.now in
+    let first = c.args.row * c.args.screen.columns in
     let column = c.loop-column.column in
     let v = c.loop-column.invariant in
     let foreground = rw (c.from.ensures, c.from-2.ensures, c.from-in-loop-column.ensures) at c.colour.ensures in
@@ -41,5 +41,5 @@ loop-column-preserved c =
 pub returns : goal.returns
 unfolding shown_row
 returns c =
-    let e : c.loop-column.column ≡ c.args.columns = omega arith in
+    let e : c.loop-column.column ≡ c.args.screen.columns = omega arith in
     next (rw e at c.loop-column.invariant.wrote) c.bytes.ensures

@@ -8,8 +8,8 @@ use Rattle.text.proofs.writer.Writer.shown_row.Given as goal
 
 abbrev pub invariant-loop-column : goal.invariant-loop-column
 invariant-loop-column l =
-    let cells = cells_of l.screen in
-    let first = l.row * l.columns in record {
+    let cells = cells_of l.screen.words.now in
+    let first = l.row * l.screen.columns in record {
       foreground : l.before.foreground ≡ colour_before cells.foreground first l.column;
       background : l.before.background ≡ colour_before cells.background first l.column;
       wrote : Wrote l.initial.self (shown_cells cells first l.column) l.self;

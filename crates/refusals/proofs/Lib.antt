@@ -1,0 +1,2 @@
+-- What is proved of refusals.
+pub mod Numbers
