@@ -30,7 +30,7 @@ fn column_mask(column: u32, row: u32, count: u32) -> u32
     (85 >> (8 - count * 2)) << (row % 4 * 2 + column % 2)
 }
 
-// Bits and ink set in a cell that the store has.
+// Bits and ink set in a cell that the store has. By an index, as in crate layers.
 #[tactic(auto, using(grids::proofs::InkedCells::inking))]
 fn ink_at(cells: &mut [u32], i: usize, bits: u32, word: u32)
     requires { i < length cells.old / 5 }
@@ -89,6 +89,7 @@ impl Strip {
         }
     }
 
+    // Each way below leaves strip_painted.
     // On any grid: one dot after the other.
     #[inline(never)]
     fn paint_each(self, cells: &mut [u32])

@@ -3,22 +3,9 @@
 // the number of cuts that clipping makes.
 #![tactic(auto)]
 
-use bundle::questions::{answer_questions, float_at};
+use bundle::questions::{answer_questions, bounds_at, float_at};
 use std::io;
-use walk::clip::{Bounds, Clipped, Segment, clip_line};
-
-fn bounds_of(question: &[u8]) -> Bounds {
-    let left = float_at(question, 0);
-    let right = float_at(question, 8);
-    let bottom = float_at(question, 16);
-    let top = float_at(question, 24);
-    Bounds {
-        left,
-        right,
-        bottom,
-        top,
-    }
-}
+use walk::clip::{Clipped, Segment, clip_line};
 
 fn line_of(question: &[u8]) -> Segment {
     let x1 = float_at(question, 32);
@@ -37,7 +24,7 @@ fn print_answer(rt: &impl Print, clipped: Clipped) -> io::Result<()> {
 }
 
 fn answer_question(rt: &impl Print, question: &[u8]) -> io::Result<()> {
-    let bounds = bounds_of(question);
+    let bounds = bounds_at(question, 0);
     let line = line_of(question);
     print_answer(rt, clip_line(bounds, line))
 }

@@ -1,4 +1,5 @@
 // The picture and the labels laid on the screen, three plain words a cell.
+// Screen, area, canvas and cells go one by one, as in crate canvas: which of them is written is said by &mut.
 ghost use Rattle.std.specs.Prelude.{◌≡◌, ℕ, ◌+◌, ◌-◌, ◌*◌, ◌/◌, ◌^◌, ◌<◌, ◌≤◌, min, true, false, length, get_or};
 ghost use Rattle.grids.specs.Lists.{foldl};
 ghost use Rattle.view.specs.Limits.{max_labels};
@@ -161,7 +162,7 @@ pub fn lay(screen: &mut [u32], a: Area, cells: &[u32], c: Canvas)
     lay_rows(screen, a, cells, c);
 }
 
-// How many bytes of a label at this place stand in the canvas' area.
+// How many bytes of a label at this place stand in the canvas' area: 0 is the number where none does.
 fn fitting_bytes(c: Canvas, column_word: u32, row: u32, length: u32) -> u32
     ensures { result ≡ fitting_at c.columns c.rows (place_of column_word row) length }
 {
@@ -195,7 +196,7 @@ fn write_bytes(screen: &mut [u32], at: usize, bytes: &[u32], word: u32)
     }
 }
 
-// The label k written on the screen; the number of its cells.
+// The label k written on the screen; the number of its cells, which is 0 where none stands in the area.
 #[tactic(auto, using(ledger::proofs::Written::label_writing))]
 pub fn write_label(screen: &mut [u32], a: Area, c: Canvas, labels: &[u32], k: u32) -> u32
     ensures { k * 44 + 44 ≤ length labels.now → passes_edge c.columns c.rows a ≡ false → bad_screen a screen.old ≡ false

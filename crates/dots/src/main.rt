@@ -3,26 +3,20 @@
 // answer is a line: `dot COLUMN ROW`, `none`, or `refused N`.
 #![tactic(auto)]
 
-use bundle::questions::{answer_questions, float_at};
+use bundle::questions::{answer_questions, bounds_at, float_at};
 use canvas::calls::get_point;
 use form::fields::FieldValue;
 use ledger::state::{Canvas, Opening};
 use limits::state::RESET;
 use refusals::refusal::Refusal;
 use std::io;
-use walk::clip::Bounds;
 
 // An open canvas of the question's size, bounds and marker; with marker 8 its character is a blank.
 fn canvas_of(question: &[u8]) -> Canvas {
     Canvas::opened(Opening {
         columns: u16::read(question, 0),
         rows: u16::read(question, 2),
-        bounds: Bounds {
-            left: float_at(question, 4),
-            right: float_at(question, 12),
-            bottom: float_at(question, 20),
-            top: float_at(question, 28),
-        },
+        bounds: bounds_at(question, 4),
         marker: u8::read(question, 36),
         character: 32,
         background: RESET,

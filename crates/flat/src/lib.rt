@@ -4,8 +4,7 @@
 
 ghost use Rattle.flat.specs.Flat.{pairs_of};
 
-use lines::painter::Painter;
-use pairs::points::{ORIGIN, Paint, Pairs, paint_pairs};
+use pairs::points::{ORIGIN, Paint, Pairs};
 use walk::clip::Pair;
 
 #[derive(Clone, Copy)]
@@ -31,8 +30,4 @@ impl<'a> Pairs for Flat<'a> {
     }
 }
 
-impl<'a> Paint for Flat<'a> {
-    fn paint(self, cells: &mut [u32], p: Painter) -> u64 {
-        paint_pairs(cells, p, self)
-    }
-}
+impl<'a> Paint for Flat<'a> {}

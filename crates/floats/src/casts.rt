@@ -1,4 +1,5 @@
 // Rust's `as` between f64 and the integers that the canvas uses (document 01, 'Float numbers').
+// One for each type, as std has them: no trait of the library casts a float.
 ghost use Rattle.std.specs.Prelude.{◌≡◌};
 ghost use Rattle.floats.specs.Truncation.{as_signed, as_unsigned, whole_of};
 

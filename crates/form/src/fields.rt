@@ -6,6 +6,7 @@ ghost use Rattle.floats.specs.Domain.{in_domain};
 ghost use Rattle.form.specs.Fields.{bits_of, little, number_at, stands, width_in, float_in};
 
 // The bytes at a place, or zeros where the part ends inside them.
+// A slice and a place: a struct of both would be made for each field.
 fn bytes_at<const N: usize>(part: &[u8], at: usize) -> [u8; N]
     ensures { little result 0 N ≡ number_at part.now at N }
 {

@@ -1,4 +1,5 @@
 // A grid of dots, and a dot painted into the one being drawn. Ink is passed as its word in the store.
+// Column, row and word go one by one, as in the Rust's paint: in the loops over dots they go in by registers.
 ghost use Rattle.std.specs.Prelude.{◌≡◌, ◌+◌, ◌*◌, ◌/◌, ◌%◌, ◌<◌, ◌≤◌, ◌^◌};
 ghost use Rattle.grids.specs.Markers.{resolution_of};
 ghost use Rattle.grids.specs.Painting.{paint_of, inked_words, cells_held, dot_set, braille_dot, plain_dot, half_dot};
@@ -13,7 +14,7 @@ pub fn flat_index(columns: u16, column: u32, row: u32) -> usize
     row as usize * usize::from(columns) + column as usize
 }
 
-// How many cells a canvas has.
+// How many cells a canvas has. By two numbers: they are no canvas' yet.
 pub fn cell_count(columns: u16, rows: u16) -> usize
     ensures { result ≡ columns * rows }
 {

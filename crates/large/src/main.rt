@@ -27,6 +27,7 @@ fn mixed(digest: u64, word: u32) -> u64
 }
 
 // Each word counts by its place.
+// Twice in the repository: as one it would be a public function with a definition that no demand names.
 fn digest_of(words: &[u32]) -> u64 {
     let mut digest: u64 = 0;
     for word in words {

@@ -6,6 +6,7 @@
 use report::program::print_layout;
 use streams::{FILE_ROOM, Program};
 
+// Apart from the other program: as one over a closure this would be a public function with a demand of its own.
 fn main(rt: HostRuntime) {
     let program = Program {
         runtime: &rt,

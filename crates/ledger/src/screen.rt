@@ -9,7 +9,7 @@ pub struct Area {
     pub y: u16,
 }
 
-// A cell of the screen: plain values.
+// A cell of the screen: plain values. Apart from LayerCell: there a word of 0 sets nothing.
 #[derive(Clone, Copy)]
 pub struct ScreenCell {
     pub symbol: u32,

@@ -18,7 +18,7 @@ use walk::clip::{Bounds, Segment};
 // The terminal's own colour, the last that is taken.
 pub const RESET: u32 = 16777216;
 
-// Not 1 to 200 columns and 1 to 100 rows.
+// Not 1 to 200 columns and 1 to 100 rows. By two numbers: they are no canvas' yet.
 pub fn is_bad_size(columns: u16, rows: u16) -> bool
     ensures { result ≡ bad_size columns rows }
 {

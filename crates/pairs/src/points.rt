@@ -1,4 +1,5 @@
 // Points over a list of coordinate pairs, however it is lent: looked through, painted, and drawn.
+// Canvas, cells and labels stand side by side, as in crate canvas.
 ghost use Rattle.std.specs.Prelude.{◌≡◌, List, get_or, length};
 ghost use Rattle.shapes.specs.Shapes.{pair_dots};
 ghost use Rattle.walk.specs.declared.clip.Pair.{Pair};
@@ -35,7 +36,10 @@ pub trait Pairs: Copy {
 pub trait Paint: Pairs {
     // The points of the pairs, painted one after the other; the number of their dots.
     fn paint(self, cells: &mut [u32], p: Painter) -> u64
-        ensures { Painted p cells.old (pair_dots p.view (Self.listed self)) result cells.new };
+        ensures { Painted p cells.old (pair_dots p.view (Self.listed self)) result cells.new }
+    {
+        paint_pairs(cells, p, self)
+    }
 }
 
 impl<'a> Pairs for &'a [Pair] {
@@ -50,11 +54,7 @@ impl<'a> Pairs for &'a [Pair] {
     }
 }
 
-impl<'a> Paint for &'a [Pair] {
-    fn paint(self, cells: &mut [u32], p: Painter) -> u64 {
-        paint_pairs(cells, p, self)
-    }
-}
+impl<'a> Paint for &'a [Pair] {}
 
 // A pair with a number outside the domain.
 #[tactic(auto, using(crate::proofs::PairScans::scans))]

@@ -1,4 +1,5 @@
 // The opening of a picture file: size, bit map, and the fields whose bit stands.
+// Canvas, cells and labels stand side by side, as in crate canvas.
 ghost use Rattle.std.specs.Prelude.{◌≡◌};
 ghost use Rattle.form.specs.Fields.{size_by};
 ghost use Rattle.form.specs.Forms.{opening_widths};
@@ -13,7 +14,7 @@ use limits::state::RESET;
 use refusals::refusal::Refusal;
 use walk::clip::Bounds;
 
-// The largest canvas that a caller takes.
+// The largest canvas that a caller takes. Of 16 bits, as a file has them.
 #[derive(Clone, Copy)]
 pub struct Largest {
     pub columns: u16,

@@ -1,4 +1,5 @@
 // A whole picture file: opening, records, and a render on a lent screen.
+// Canvas, cells and labels stand side by side, as in crate canvas.
 ghost use Rattle.std.specs.Prelude.{◌≡◌};
 ghost use Rattle.ledger.specs.Outcomes.{given};
 ghost use Rattle.picture.specs.Results.{stop_in, drawn_in};

@@ -1,5 +1,6 @@
 // The call that a record stands for: the fields are read from the part of the file that begins with the
 // record's first field.
+// Canvas, cells and labels stand side by side, as in crate canvas.
 ghost use Rattle.std.specs.Prelude.{◌≡◌, true, ◌≤◌, length};
 ghost use Rattle.ledger.specs.Calls.{draw};
 ghost use Rattle.ledger.specs.Model.{refusal_on, state_after};
@@ -101,8 +102,8 @@ fn draw_call(
     Ok(())
 }
 
-// A points record: the pairs in the bytes, drawn as `points` does. By a call, so that its loop over the pairs has
-// the registers to itself.
+// A points record: the pairs in the bytes, drawn as `points` does. By a call, so that the values of its loop over the
+// pairs stay in registers.
 #[inline(never)]
 fn points_call(
     part: Part<'_>,

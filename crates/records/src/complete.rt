@@ -1,6 +1,7 @@
 // Records of lines, filled lines and circles that have all their fields, as most do: the fields then have
 // fixed places, and neither these nor the record's form need working out. Any other record is read field by
 // field in calls.rt; steps.rt refuses one of these that the file cuts short, or in a file that is too long.
+// Canvas, cells and labels stand side by side, as in crate canvas.
 ghost use Rattle.std.specs.Prelude.{◌≡◌, IfSome};
 ghost use Rattle.floats.specs.Arithmetic.{bits};
 ghost use Rattle.ledger.specs.Calls.{draw, bad_segment, bad_shape};
@@ -27,14 +28,17 @@ pub(crate) enum Complete {
 }
 
 // A shape with its colour, and whether one of its numbers is outside the domain.
+// bad is a flag: an Option of the shape would be none where it stands; draw_refusal speaks of the shape in both cases.
 #[derive(Clone, Copy)]
 struct Judged {
     shape: Shape,
     bad: bool,
     colour: u32,
+    ghost judged: { bad ≡ bad_shape shape },
 }
 
 // The bits of a line's two ends.
+// Of its own: of one generic struct with Segment and Ends each definition would have to name its number's type.
 #[derive(Clone, Copy)]
 struct EndBits {
     x1: u64,
@@ -74,8 +78,7 @@ fn ends_of(e: EndBits) -> Segment
 
 // A line, a filled line and a circle in the bytes.
 fn complete_line(part: &[u8]) -> Judged
-    ensures call { draw result.shape result.colour ≡ line_call 31 part.now }
-    ensures bad { result.bad ≡ bad_shape result.shape }
+    ensures { draw result.shape result.colour ≡ line_call 31 part.now }
 {
     let e = end_bits(part);
     Judged {
@@ -86,8 +89,7 @@ fn complete_line(part: &[u8]) -> Judged
 }
 
 fn complete_filled_line(part: &[u8]) -> Judged
-    ensures call { draw result.shape result.colour ≡ filled_line_call 63 part.now }
-    ensures bad { result.bad ≡ bad_shape result.shape }
+    ensures { draw result.shape result.colour ≡ filled_line_call 63 part.now }
 {
     let e = end_bits(part);
     let fill = u64::read(part, 32);
@@ -99,8 +101,7 @@ fn complete_filled_line(part: &[u8]) -> Judged
 }
 
 fn complete_circle(part: &[u8]) -> Judged
-    ensures call { draw result.shape result.colour ≡ circle_call 15 part.now }
-    ensures bad { result.bad ≡ bad_shape result.shape }
+    ensures { draw result.shape result.colour ≡ circle_call 15 part.now }
 {
     let x = u64::read(part, 0);
     let y = u64::read(part, 8);
@@ -114,8 +115,7 @@ fn complete_circle(part: &[u8]) -> Judged
 
 #[tactic(auto, unfolding(crate::specs::Records::call_of))]
 fn judge(kind: Complete, part: &[u8]) -> Judged
-    ensures call { draw result.shape result.colour ≡ call_of (complete_number kind) (complete_map (complete_number kind)) part.now }
-    ensures bad { result.bad ≡ bad_shape result.shape }
+    ensures { draw result.shape result.colour ≡ call_of (complete_number kind) (complete_map (complete_number kind)) part.now }
 {
     match kind {
         Complete::Line => complete_line(part),
@@ -144,6 +144,7 @@ pub(crate) fn complete_kind(file: &[u8], at: usize) -> Option<Complete>
     }
     // 30 bytes hold a circle; what the others need is tested for each, so that its reads need no test
     let rest = file.len() - at;
+    // By the numbers: Kind::try_from would be a second match for each record.
     match (file[at], file[at + 1]) {
         (1, 31) if rest >= 38 => Some(Complete::Line),
         (2, 63) if rest >= 46 => Some(Complete::FilledLine),
@@ -153,6 +154,7 @@ pub(crate) fn complete_kind(file: &[u8], at: usize) -> Option<Complete>
 }
 
 // What `draw` does, of a shape that was judged.
+// Apart from the call draw, which judges the floats: here their bits were judged.
 #[tactic(auto, using(ledger::proofs::CallFacts::calls))]
 fn draw_judged(
     d: Judged,
@@ -160,7 +162,6 @@ fn draw_judged(
     cells: &mut [u32],
     labels: &[u32],
 ) -> Result<(), Refusal>
-    requires { d.bad ≡ bad_shape d.shape }
     ensures refusal { number_in result ≡ refusal_on (given canvas.old cells.old labels.now) (draw d.shape d.colour) }
     ensures state { given canvas.new cells.new labels.now ≡ state_after (given canvas.old cells.old labels.now) (draw d.shape d.colour) }
 {

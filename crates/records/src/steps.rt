@@ -1,4 +1,5 @@
 // A record of a file: its form, its call, and the step that it makes.
+// Canvas, cells and labels stand side by side, as in crate canvas.
 ghost use Rattle.std.specs.Prelude.{◌≡◌};
 ghost use Rattle.ledger.specs.Outcomes.{given};
 ghost use Rattle.records.specs.Complete.{complete_number};

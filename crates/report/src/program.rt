@@ -104,6 +104,8 @@ fn print<P: Output>(file: &[u8], out: &mut [u8]) -> usize
 
 // What `layout` prints for a file, from the start of out; what stood past it stays. Returns how many
 // bytes it has. The last two facts let a caller lend them, `&out[..n]`.
+// A count and no slice: the clause also says what stays in out past the text. Two functions by the lengths of their
+// arrays; both are print.
 pub fn print_layout(file: &[u8], out: &mut [u8; 65536]) -> usize
     ensures out_after { (out.new ≡ layout_prints file.now ++ drop result out.old) × (result ≡ length (layout_prints file.now)) }
     ensures upper_bound { (result ≤ length out.new) × (result ≡ length (take result out.new)) }

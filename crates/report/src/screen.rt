@@ -10,6 +10,7 @@ use picture::opening::Largest;
 pub fn blank_screen(screen: &mut [u32])
     ensures { screen.new ≡ blank_screen screen.old }
 {
+    // By an index, as in crate display: what a loop over chunks_exact_mut wrote is not known after it.
     for k in 0..screen.len() / 3 {
         let i = k * 3;
         screen[i] = 0x20;

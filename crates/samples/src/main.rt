@@ -10,21 +10,16 @@ use std::io;
 use walk::clip::{Bounds, Segment};
 
 // What a call answered, as a line.
+// A trait of our own: Display can be written only in a type's own crate.
 trait Show {
-    fn show(&self, rt: &impl Print) -> io::Result<()>;
-}
-
-impl Show for () {
     fn show(&self, rt: &impl Print) -> io::Result<()> {
         println!(rt; "done")
     }
 }
 
-impl Show for Canvas {
-    fn show(&self, rt: &impl Print) -> io::Result<()> {
-        println!(rt; "done")
-    }
-}
+impl Show for () {}
+
+impl Show for Canvas {}
 
 impl Show for u64 {
     fn show(&self, rt: &impl Print) -> io::Result<()> {
@@ -60,6 +55,7 @@ impl<T: Show> Show for Result<T, Refusal> {
 }
 
 // The screen's words, three to a cell: symbol, foreground, background.
+// By hand: a line of words is no value with a Display.
 fn show_screen(rt: &impl Print, screen: &[u32]) -> io::Result<()> {
     for word in screen {
         print!(rt; " {word}")?;
@@ -68,6 +64,7 @@ fn show_screen(rt: &impl Print, screen: &[u32]) -> io::Result<()> {
 }
 
 // A canvas with bounds from 0 to this, and no character or background of its own.
+// By two numbers: they are no canvas' yet.
 fn opening(columns: u16, rows: u16, high: f64, marker: u8) -> Opening {
     Opening {
         columns,
@@ -86,6 +83,7 @@ fn opening(columns: u16, rows: u16, high: f64, marker: u8) -> Opening {
 
 // '3 by 2 Dot, dot (3, 0): cell (0, 1) is painted. HalfBlock: 9.'
 fn dot_past_row_end(rt: &impl Print, marker: u8) -> io::Result<()> {
+    // The marker by its number, which is printed.
     println!(rt; "3 by 2, dot 3 0, marker {marker}")?;
     let mut cells = [0u32; 30];
     let labels = [0u32; 2816];

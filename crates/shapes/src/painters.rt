@@ -32,7 +32,7 @@ pub enum Shape {
     Circle(f64, f64, f64),
 }
 
-// A dot, or none.
+// A dot, or none. Here and below 0 is the number of dots where there is none.
 pub fn paint_found(cells: &mut [u32], p: Painter, found: Option<(u16, u16)>) -> u64
     ensures { Painted p cells.old (point_dots found) result cells.new }
 {

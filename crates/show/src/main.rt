@@ -6,6 +6,7 @@ use report::program::print_show;
 use streams::{FILE_ROOM, Program};
 
 // Apart from `layout`'s, since no bound over functions may name the length of `out`, by which the two differ.
+// As one over a closure this would be a public function with a demand of its own.
 fn main(rt: HostRuntime) {
     let program = Program {
         runtime: &rt,

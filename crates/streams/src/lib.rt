@@ -16,7 +16,7 @@ fn read_all<'b>(reader: &mut impl Read, buffer: &'b mut [u8]) -> io::Result<&'b 
     ensures { IfOk result (λ read. length read.now ≤ length buffer.old) }
 {
     let mut count = 0;
-    // No range or iterator serves: each read says how far the next one starts.
+    // No range or iterator serves: each read says where the next one starts.
     while count < buffer.len() {
         let more = reader.read(&mut buffer[count..])?;
         if more == 0 {

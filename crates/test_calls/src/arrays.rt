@@ -103,6 +103,7 @@ impl Run {
 }
 
 // A digest carried over more words; each counts by its place.
+// Twice in the repository: as one it would be a public function with a definition that no demand names.
 fn digest_on(before: u64, words: &[u32]) -> u64
     requires { before < 4294967291 }
     ensures { result < 4294967291 }

@@ -1,5 +1,5 @@
-// The steps that make a call, over the lent parts of the arrays. A number of
-// a step becomes a length by `as`, since usize has no From of u32.
+// The steps that make a call, over the lent parts of the arrays. A number of a step becomes a length by `as`,
+// since usize has no From of u32.
 use crate::answer::Answer;
 use crate::run::Run;
 use crate::step::Step;
@@ -11,6 +11,7 @@ use refusals::refusal::Refusal;
 use shapes::painters::Shape;
 use walk::clip::Pair;
 
+// The parts are lent in each method: one that gives all three would lend the whole Run.
 impl Run {
     // 02: k = columns + 65,536 × rows; w0 to w3 the bounds; a marker, m character, n background.
     pub(crate) fn open(&mut self, step: &Step) -> Result<Answer, Refusal> {
@@ -42,6 +43,7 @@ impl Run {
     // 09: the first k pairs of the scratch, in the colour n.
     pub(crate) fn points(&mut self, step: &Step) -> Result<Answer, Refusal> {
         let lengths = self.lengths;
+        // Fixed memory, no heap: the pairs are handed on as a slice.
         let mut pairs = [Pair { x: 0.0, y: 0.0 }; 2048];
         let count = (step.k() as usize).min(lengths.scratch / 16);
         for i in 0..count {

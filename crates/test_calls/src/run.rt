@@ -24,6 +24,7 @@ pub(crate) struct Lengths {
 }
 
 // 20,000 cells of five words, 64 labels of 44, a screen of 60,000 cells of three, and the scratch.
+// Fixed memory, no heap: step 01 says how much of each array a call is lent.
 #[derive(Drop)]
 pub struct Run {
     pub(crate) canvas: Canvas,
@@ -68,6 +69,7 @@ impl Run {
     }
 
     fn answer(&mut self, step: &Step) -> Result<Answer, Refusal> {
+        // By the number: as an enum each step would stand in its TryFrom too, and a line begins with the number, known or not.
         match step.op() {
             0x01 => Ok(self.lend(step)),
             0x02 => self.open(step),

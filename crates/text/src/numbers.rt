@@ -5,7 +5,7 @@ ghost use Rattle.text.specs.Writer.{Wrote};
 
 use crate::writer::Writer;
 
-// The character of a digit.
+// The character of a digit. By hand: std's Display says nothing of the bytes that it puts into lent memory.
 fn digit(d: u8) -> u8
     requires { d < 16 }
     ensures { result ≡ digit_byte d }

@@ -1,4 +1,5 @@
 // From bounds to a dot (Painter::get_point) and to a label's first cell (Canvas::render).
+// A point's x and y go one by one, as in the Rust: each definition takes them so.
 ghost use Rattle.std.specs.Prelude.{◌≡◌, ◌-◌, ◌<◌, ◌≤◌, true, false, not, T, pos, is_nan, Some};
 ghost use Rattle.std.specs.Float.{fin};
 ghost use Rattle.std.specs.Float.Ieee.{le, lt, to_unsigned};
@@ -63,6 +64,7 @@ pub struct Frame {
     pub height: f64, // from bottom to top
     pub across: f64, // the dots across less one
     pub down: f64, // the dots down less one
+    // A flag, and no Option of the frame, which would be asked at each of its five callers.
     pub flat: bool, // whether width or height is at most 0
 }
 

@@ -48,7 +48,7 @@ fn place(a: u16, b: u16) -> u64
     u64::from(a) * ONE + middle
 }
 
-// What a step from a toward b adds.
+// What a step from a toward b adds. The sign of the step is chosen: no lesser or greater of two numbers.
 #[tactic(auto, using(crate::proofs::FixedPoint::slopes), unfolding(crate::specs::Course::move_of))]
 fn moves(long: u16, a: u16, b: u16) -> u64
     ensures { result ≡ move_of long a b }

@@ -98,6 +98,9 @@ pub fn load(words: &[u64]) -> Canvas
     }
 }
 
+// Here and below the words go as a slice that is long enough. As the array that first_chunk_mut lends, each
+// definition would be said of a start and a rest.
+
 fn put_changed(words: &mut [u64], c: Canvas)
     requires { canvas_words ≤ length words.old }
     ensures { words.new ≡ changed_words words.old c }
@@ -157,6 +160,7 @@ pub fn keep_all(words: &mut [u64], c: Canvas)
 }
 
 // A call's outcome: the words are kept where it is accepted, and the answer is 0 or the refusal's number.
+// A number, since C has no Result.
 pub fn finish<T: Copy>(words: &mut [u64], canvas: Canvas, called: Result<T, Refusal>) -> u8
     ensures status { result ≡ number_in called }
     ensures words { words.new ≡ words_left words.old called canvas }
