@@ -3,10 +3,10 @@
 // name of the program that reads.
 #![tactic(auto)]
 
-ghost use Rattle.std.specs.Prelude.{◌≤◌, length, IfOk, IfSome};
+ghost use Rattle.std.specs.Prelude.{◌≤◌, length, IfOk, IfErr, IfSome};
 
 use std::io;
-use streams::{FILE_ROOM, Program};
+use streams::{FILE_ROOM, Program, ReadError};
 
 pub mod questions; // questions.rt: a question of so many bytes after the other
 
@@ -15,9 +15,10 @@ pub fn read_part<'b, R: io::Input + Eprint>(
     program: &Program<'_, R>,
     buffer: &'b mut [u8],
     most: usize,
-) -> io::Result<&'b [u8]>
+) -> Result<&'b [u8], ReadError>
     ensures in_buffer { IfOk result (λ part. length part.now ≤ length buffer.old) }
     ensures at_most { IfOk result (λ part. length part.now ≤ most) }
+    ensures failed { IfErr result (λ e. e.count ≤ length buffer.old) }
 {
     let n = most.min(buffer.len());
     program.read(&mut buffer[..n])
@@ -58,19 +59,31 @@ fn skip_rest<R: io::Input + Eprint>(
 }
 
 // A file: its length, of four bytes, and as many of its bytes as the buffer holds. The others are skipped.
+// Where a read fails, its count is of the file's bytes.
 pub fn read_file<'b, R: io::Input + Eprint>(
     program: &Program<'_, R>,
     buffer: &'b mut [u8],
-) -> io::Result<&'b [u8]>
-    ensures { IfOk result (λ file. length file.now ≤ length buffer.old) }
+) -> Result<&'b [u8], ReadError>
+    ensures in_buffer { IfOk result (λ file. length file.now ≤ length buffer.old) }
+    ensures failed { IfErr result (λ e. e.count ≤ length buffer.old) }
 {
     let mut bytes = [0u8; 4];
-    program.read(&mut bytes)?;
+    if let Err(head) = program.read(&mut bytes) {
+        return Err(ReadError {
+            count: 0,
+            error: head.error,
+        });
+    }
     // By `as`, since usize has no From of u32.
     let size = u32::from_le_bytes(bytes) as usize;
     let room = buffer.len();
     let file = read_part(program, buffer, size)?;
-    skip_rest(program, size, room)?;
+    if let Err(error) = skip_rest(program, size, room) {
+        return Err(ReadError {
+            count: file.len(),
+            error,
+        });
+    }
     Ok(file)
 }
 

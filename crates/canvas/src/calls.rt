@@ -241,6 +241,22 @@ pub fn open(opening: Opening, cells: &mut [u32], labels: &[u32]) -> Result<Canva
     Ok(canvas)
 }
 
+// The same in place of a canvas that was held: a refused opening leaves the canvas of zeros there.
+pub fn reopen(
+    canvas: &mut Canvas,
+    opening: Opening,
+    cells: &mut [u32],
+    labels: &[u32],
+) -> Result<(), Refusal>
+    ensures answer { done result ≡ (open_called opening cells.old (length labels.now)).answer }
+    ensures canvas { canvas.new ≡ (open_called opening cells.old (length labels.now)).canvas }
+    ensures cells { cells.new ≡ open_cells opening cells.old (length labels.now) }
+{
+    *canvas = zero_canvas();
+    *canvas = open(opening, cells, labels)?;
+    Ok(())
+}
+
 // A shape drawn in a colour; the number of its dots.
 #[tactic(auto, using(ledger::proofs::CallFacts::calls))]
 pub fn draw(

@@ -41,7 +41,6 @@ fn ink_at(cells: &mut [u32], i: usize, bits: u32, word: u32)
 }
 
 // The same bits and ink in cells below one another.
-#[inline(never)]
 fn ink_down(cells: &mut [u32], first: usize, columns: u16, count: usize, bits: u32, word: u32)
     requires { first + count * columns < length cells.old / 5 + columns }
     ensures { cells.new ≡ inked_down columns bits word cells.old first count }
@@ -128,19 +127,20 @@ impl Strip {
             let count = (self.high - self.low) as usize + 1;
             ink_down(cells, first, columns, count, 1, self.word);
         } else {
-            self.paint_each(cells);
+            let strip = self; // as in paint_braille
+            strip.paint_each(cells);
         }
     }
 
-    // On any other grid than a Braille one. By a call, so that a filled line's columns test for Braille alone.
-    #[inline(never)]
+    // On any other grid than a Braille one.
     fn paint_other(self, cells: &mut [u32])
         ensures { cells.new ≡ strip_painted self cells.old }
     {
         if is_plain(self.grid.marker) {
             self.paint_plain(cells);
         } else {
-            self.paint_each(cells);
+            let strip = self; // as in paint_braille
+            strip.paint_each(cells);
         }
     }
 }

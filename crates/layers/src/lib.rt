@@ -146,6 +146,7 @@ fn are_bare(cells: &[u32], i: usize) -> bool
 }
 
 // A cell merged: saved, and its grid cleared.
+#[inline(always)]
 #[tactic(auto, using(crate::proofs::SavedCells::words), unfolding(grids::specs::Layer::saved_cell))]
 fn merge_at(cells: &mut [u32], i: usize, marker: Marker, character: u32)
     requires { i < length cells.old / 5 }
@@ -186,6 +187,7 @@ fn braille_word(pattern: u32) -> u32
 
 // A cell of a grid of so many patterns that sets no background merged: by `word_of`, the word of a
 // pattern's symbol.
+#[inline(always)]
 #[tactic(auto, using(crate::proofs::SavedCells::merged))]
 fn merge_symbol<const PATTERNS: u32, F: Fn(u32) -> u32>(cells: &mut [u32], i: usize, word_of: &F)
     requires held { i < length cells.old / 5 }
@@ -205,6 +207,7 @@ fn merge_symbol<const PATTERNS: u32, F: Fn(u32) -> u32>(cells: &mut [u32], i: us
 }
 
 // Four cells of such a grid merged.
+#[inline(always)]
 fn merge_four_symbols<const PATTERNS: u32, F: Fn(u32) -> u32>(
     cells: &mut [u32],
     i: usize,
@@ -226,6 +229,7 @@ fn merge_four_symbols<const PATTERNS: u32, F: Fn(u32) -> u32>(
 // Four cells merged. Without ink they stay as they are, which is the same, since 'A layer sets nothing
 // in a cell without its dots'; most cells of a layer are so, and four are tested as fast as one.
 // Braille, Dot and Custom are told apart once for the four, and not for each cell.
+#[inline(always)]
 #[tactic(auto, using(crate::proofs::SavedCells::merged))]
 fn merge_four(cells: &mut [u32], i: usize, marker: Marker, character: u32, word: u32)
     requires { (i + 4 ≤ length cells.old / 5) × (word ≡ suc (symbol_of marker (character % 2 ^ 21) 1)) }
@@ -246,7 +250,8 @@ fn merge_four(cells: &mut [u32], i: usize, marker: Marker, character: u32, word:
     }
 }
 
-// The first n fours of cells merged.
+// The first n fours of cells merged. In its callers, where the marker may be a constant.
+#[inline(always)]
 #[tactic(auto, using(crate::proofs::SavedCells::symbols, crate::proofs::CellLoops::passes))]
 fn merge_fours(cells: &mut [u32], n: usize, marker: Marker, character: u32)
     requires { n * 4 ≤ length cells.old / 5 }
@@ -299,7 +304,13 @@ fn save_reset(cells: &mut [u32], grid: Grid, character: u32)
 {
     let n = grid.cells_held(cells);
     let fours = n / 4;
-    merge_fours(cells, fours, grid.marker, character);
+    // A loop of its own for each grid that most pictures are drawn on.
+    match grid.marker {
+        Marker::Braille => merge_fours(cells, fours, Marker::Braille, character),
+        Marker::Dot => merge_fours(cells, fours, Marker::Dot, character),
+        Marker::Custom => merge_fours(cells, fours, Marker::Custom, character),
+        marker => merge_fours(cells, fours, marker, character),
+    }
     merge_rest(cells, fours * 4, n, grid.marker, character);
 }
 

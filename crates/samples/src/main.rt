@@ -2,7 +2,7 @@
 // run here, and what is printed is held to the file stdout.
 #![tactic(auto)]
 
-use canvas::calls::{Rendered, dot, draw, get_point, open, print, render, zero_canvas};
+use canvas::calls::{Rendered, dot, draw, get_point, open, print, render, reopen, zero_canvas};
 use ledger::state::{Canvas, Opening};
 use refusals::refusal::Refusal;
 use shapes::painters::Shape;
@@ -88,9 +88,9 @@ fn dot_past_row_end(rt: &impl Print, marker: u8) -> io::Result<()> {
     let mut cells = [0u32; 30];
     let labels = [0u32; 2816];
     let mut screen = [0u32; 18];
-    let opened = open(opening(3, 2, 10.0, marker), &mut cells, &labels);
-    opened.show(rt)?;
-    let mut canvas = opened.unwrap_or(zero_canvas());
+    let mut canvas = zero_canvas();
+    let o = opening(3, 2, 10.0, marker);
+    reopen(&mut canvas, o, &mut cells, &labels).show(rt)?;
     dot(&mut canvas, &mut cells, &labels, 3, 0, 255).show(rt)?;
     let area = canvas.area();
     render(&mut canvas, &mut cells, &labels, area, &mut screen).show(rt)?;
@@ -103,8 +103,8 @@ fn label_truncated(rt: &impl Print) -> io::Result<()> {
     let mut cells = [0u32; 55];
     let mut labels = [0u32; 2816];
     let mut screen = [0u32; 33];
-    let opened = open(opening(11, 1, 10.0, 2), &mut cells, &labels);
-    let mut canvas = opened.unwrap_or(zero_canvas());
+    let mut canvas = zero_canvas();
+    let _ = reopen(&mut canvas, opening(11, 1, 10.0, 2), &mut cells, &labels);
     get_point(canvas, 1.9, 0.0).show(rt)?;
     print(&mut canvas, &cells, &mut labels, 1.9, 0.0, b"A", None).show(rt)?;
     let area = canvas.area();
@@ -118,8 +118,8 @@ fn all_bounds_zero(rt: &impl Print) -> io::Result<()> {
     let mut cells = [0u32; 20];
     let mut labels = [0u32; 2816];
     let mut screen = [0u32; 12];
-    let opened = open(opening(2, 2, 0.0, 1), &mut cells, &labels);
-    let mut canvas = opened.unwrap_or(zero_canvas());
+    let mut canvas = zero_canvas();
+    let _ = reopen(&mut canvas, opening(2, 2, 0.0, 1), &mut cells, &labels);
     let line = Shape::Line(Segment {
         x1: 0.0,
         y1: 0.0,
@@ -140,11 +140,11 @@ fn limits(rt: &impl Print) -> io::Result<()> {
     let mut labels = [0u32; 2816];
     open(opening(200, 1, 1.0, 2), &mut cells, &labels).show(rt)?;
     open(opening(201, 1, 1.0, 2), &mut cells, &labels).show(rt)?;
-    let highest = open(opening(1, 1, 1099511627776.0, 2), &mut cells, &labels);
-    highest.show(rt)?;
+    let mut canvas = zero_canvas();
+    let highest = opening(1, 1, 1099511627776.0, 2);
+    reopen(&mut canvas, highest, &mut cells, &labels).show(rt)?;
     let higher = opening(1, 1, 1099511627776.000244140625, 2);
     open(higher, &mut cells, &labels).show(rt)?;
-    let mut canvas = highest.unwrap_or(zero_canvas());
     let text = [65u8; 41];
     print(
         &mut canvas,

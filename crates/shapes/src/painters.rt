@@ -224,7 +224,9 @@ impl Circle {
     }
 }
 
-// A circle: the points at 360 angles.
+// A circle: the points at 360 angles. By a call, since the table of angles stands on its stack, which a caller that
+// draws any shape would else take for a line too.
+#[inline(never)]
 pub fn paint_circle(cells: &mut [u32], p: Painter, x: f64, y: f64, radius: f64) -> u64
     ensures { Painted p cells.old (circle_points p.view x y radius) result cells.new }
 {

@@ -2,7 +2,7 @@
 // line to standard error says so, and likewise of a write that fails.
 #![tactic(auto)]
 
-ghost use Rattle.std.specs.Prelude.{◌≡◌, ◌≤◌, length, IfOk};
+ghost use Rattle.std.specs.Prelude.{◌≡◌, ◌≤◌, length, IfOk, IfErr};
 
 use std::io;
 use std::io::Read;
@@ -11,14 +11,31 @@ use std::io::Read;
 // whatever follows (report's `Enough`).
 pub const FILE_ROOM: usize = 65537;
 
+// A read that failed, and how many bytes of the input stand at the start of the buffer all the same.
+#[derive(Drop, Debug)]
+pub struct ReadError {
+    pub count: usize,
+    pub error: io::Error,
+}
+
+impl From<ReadError> for io::Error {
+    fn from(failed: ReadError) -> io::Error {
+        failed.error
+    }
+}
+
 // What is read, to the end of the input or of the buffer, whichever comes first.
-fn read_all<'b>(reader: &mut impl Read, buffer: &'b mut [u8]) -> io::Result<&'b [u8]>
-    ensures { IfOk result (λ read. length read.now ≤ length buffer.old) }
+fn read_all<'b>(reader: &mut impl Read, buffer: &'b mut [u8]) -> Result<&'b [u8], ReadError>
+    ensures in_buffer { IfOk result (λ read. length read.now ≤ length buffer.old) }
+    ensures failed { IfErr result (λ e. e.count ≤ length buffer.old) }
 {
     let mut count = 0;
     // No range or iterator serves: each read says where the next one starts.
     while count < buffer.len() {
-        let more = reader.read(&mut buffer[count..])?;
+        let more = match reader.read(&mut buffer[count..]) {
+            Ok(more) => more,
+            Err(error) => return Err(ReadError { count, error }),
+        };
         if more == 0 {
             break;
         }
@@ -50,8 +67,9 @@ impl<R: Eprint> Program<'_, R> {
 
 impl<R: io::Input + Eprint> Program<'_, R> {
     // What is read into a buffer, to the end of the input or of the buffer, whichever comes first.
-    pub fn read<'b>(&self, buffer: &'b mut [u8]) -> io::Result<&'b [u8]>
-        ensures { IfOk result (λ read. length read.now ≤ length buffer.old) }
+    pub fn read<'b>(&self, buffer: &'b mut [u8]) -> Result<&'b [u8], ReadError>
+        ensures in_buffer { IfOk result (λ read. length read.now ≤ length buffer.old) }
+        ensures failed { IfErr result (λ e. e.count ≤ length buffer.old) }
     {
         let input = read_all(&mut self.runtime.reader(), &mut *buffer);
         input.inspect_err(|_| self.say("the input could not be read"))

@@ -1,15 +1,39 @@
 // The steps that make a call, over the lent parts of the arrays. A number of a step becomes a length by `as`,
 // since usize has no From of u32.
+ghost use Rattle.std.specs.Prelude.{◌≡◌, ◌≤◌, take};
+ghost use Rattle.ledger.specs.Calls.{points};
+ghost use Rattle.ledger.specs.Model.{state_after};
+ghost use Rattle.ledger.specs.Outcomes.{given, answer_on};
+ghost use Rattle.canvas.specs.Results.{painted};
+
 use crate::answer::Answer;
 use crate::run::Run;
 use crate::step::Step;
-use canvas::calls::{dot, draw, get_point, layer, marker, open, print, render, zero_canvas};
+use canvas::calls::{dot, draw, get_point, layer, marker, print, render, reopen};
 use form::fields::FieldValue;
 use ledger::screen::Area;
+use ledger::state::Canvas;
 use pairs::points::points;
 use refusals::refusal::Refusal;
 use shapes::painters::Shape;
 use walk::clip::Pair;
+
+// What `points` does, of the first `count` pairs.
+fn points_of(
+    canvas: &mut Canvas,
+    cells: &mut [u32],
+    labels: &[u32],
+    pairs: &[Pair; 2048],
+    count: usize,
+    colour: u32,
+) -> Result<u64, Refusal>
+    requires { count ≤ 2048 }
+    ensures answer { painted result ≡ answer_on (given canvas.old cells.old labels.now) (points (take count pairs.now) colour) }
+    ensures canvas { canvas.new ≡ (state_after (given canvas.old cells.old labels.now) (points (take count pairs.now) colour)).canvas }
+    ensures cells { cells.new ≡ (state_after (given canvas.old cells.old labels.now) (points (take count pairs.now) colour)).cells }
+{
+    points(canvas, cells, labels, &pairs[..count], colour)
+}
 
 // The parts are lent in each method: one that gives all three would lend the whole Run.
 impl Run {
@@ -17,8 +41,8 @@ impl Run {
     pub(crate) fn open(&mut self, step: &Step) -> Result<Answer, Refusal> {
         let lengths = self.lengths;
         let cells: &mut [u32] = &mut self.cells;
-        self.canvas = zero_canvas();
-        self.canvas = open(
+        reopen(
+            &mut self.canvas,
             step.opening(),
             &mut cells[..lengths.cells],
             &self.labels[..lengths.labels],
@@ -54,11 +78,12 @@ impl Run {
             };
         }
         let cells: &mut [u32] = &mut self.cells;
-        let painted = points(
+        let painted = points_of(
             &mut self.canvas,
             &mut cells[..lengths.cells],
             &self.labels[..lengths.labels],
-            &pairs[..count],
+            &pairs,
+            count,
             step.n(),
         )?;
         Ok(Answer::Painted(painted))

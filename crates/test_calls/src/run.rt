@@ -4,10 +4,8 @@ ghost use Rattle.std.specs.Prelude.{◌≤◌};
 
 use crate::answer::Answer;
 use crate::step::Step;
-use canvas::calls::zero_canvas;
 use ledger::state::Canvas;
 use refusals::refusal::Refusal;
-use report::screen::blank_screen;
 use shapes::painters::Shape;
 
 // How many words of each array a call is lent, and how many bytes of the scratch are held.
@@ -36,25 +34,6 @@ pub struct Run {
 }
 
 impl Run {
-    // The canvas of a refused opening, blank arrays lent whole, and an empty scratch.
-    pub fn new() -> Run {
-        let mut screen = [0u32; 180000];
-        blank_screen(&mut screen);
-        Run {
-            canvas: zero_canvas(),
-            cells: [0u32; 100000],
-            labels: [0u32; 2816],
-            screen,
-            scratch: [0u8; 32768],
-            lengths: Lengths {
-                cells: 100000,
-                labels: 2816,
-                screen: 180000,
-                scratch: 0,
-            },
-        }
-    }
-
     // One step, and its line; where that cannot be written, the list goes on all the same.
     pub fn take(&mut self, rt: &impl Print, step: &Step) {
         let op = step.op();
